@@ -1,4 +1,4 @@
-"""Makes the gallery: `frontend/run gallery [FOLDER]`, docs/gallery otherwise."""
+"""Makes the gallery, of the functions, texts and schedules of examples/."""
 
 import contextlib
 import io
@@ -9,6 +9,8 @@ import tempfile
 from argparse import Namespace
 
 from nllc_tools.base import files
+from nllc_tools.base.command_line import called
+from nllc_tools.base.nllc import ROOT
 from nllc_tools.base.refusal import Refusal
 from nllc_tools.base.streams import guarded
 from nllc_tools.commands import schedule, texts
@@ -21,7 +23,6 @@ from nllc_tools.views.html.escaping import text
 from nllc_tools.views.html.page import page
 from nllc_tools.views.schedule.page import page as schedule_page
 
-ROOT = os.path.dirname(os.path.dirname(os.path.dirname(os.path.dirname(os.path.abspath(__file__)))))
 EXAMPLES = "examples"
 
 # Rust files, each a section: its title.
@@ -46,19 +47,18 @@ SCHEDULES = {"each_other": "Two owners whose regions let each other grow, event 
 def main(words):
     """Makes the pages and the gallery's own; the status."""
     if len(words) > 1 or words[:1] == ["--help"]:
-        print("usage: frontend/run gallery [FOLDER]\n\nMakes the pages of docs/gallery, or of FOLDER, from examples/; "
-              "needs nllc, world_program and rustc.", file=sys.stdout if words[:1] == ["--help"] else sys.stderr)
-        return 0 if words[:1] == ["--help"] else 2
-    folder = os.path.abspath(words[0] if words else os.path.join(ROOT, "docs", "gallery"))
+        is_asked = words[:1] == ["--help"]
+        print(f"usage: {called('gallery')} [FOLDER]\n\nMakes pages of the functions of examples/gallery, and of texts and "
+              "schedules of examples/, with an index,\nin FOLDER or in out/gallery; needs nllc, world_program and rustc.",
+              file=sys.stdout if is_asked else sys.stderr)
+        return 0 if is_asked else 2
+    folder = os.path.abspath(words[0] if words else os.path.join(ROOT, "out", "gallery"))
     os.chdir(ROOT)
     return guarded("gallery", lambda: make(folder))
 
 
 def make(folder):
     os.makedirs(folder, exist_ok=True)
-    for name in os.listdir(folder):
-        if name.endswith(".html"):
-            os.unlink(os.path.join(folder, name))
     cards = {title: list(of_functions(functions(name))) for name, title in FILES.items()}
     cards["Bodies written as MIR"] = [of_text(mir_text(name), *told) for name, told in MIR_TEXTS.items()]
     made = {one.file: one.content for its in cards.values() for card in its for one in card.shown}
