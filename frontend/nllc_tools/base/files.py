@@ -26,24 +26,33 @@ def free_path(folder: str, name: str, taken: Container[str]) -> str:
 
 
 def write_whole(path: str, text: str) -> None:
-    """Writes a file so that it is there whole or not at all."""
+    """Writes a text so that it is there whole or not at all."""
+    write_by(path, text, 0o644, "give another folder: -o FOLDER")
+
+
+def write(path: str, text: str) -> None:
+    """Writes a page whole or not at all."""
+    write_by(path, text, 0o666 & ~umask(), "name another place by -o")
+
+
+def write_by(path: str, text: str, mode: int, advice: str) -> None:
+    """Writes a file beside its place, and moves it there."""
     folder = os.path.dirname(path) or "."
     try:
-        handle, unfinished = tempfile.mkstemp(dir=folder, prefix=".nll-facts-")
+        handle, unfinished = tempfile.mkstemp(dir=folder, prefix=".nllc-")
         try:
             with os.fdopen(handle, "w", encoding="utf-8", newline="\n") as file:
                 file.write(text)
-            os.chmod(unfinished, 0o644)
+            os.chmod(unfinished, mode)
             os.replace(unfinished, path)
         except BaseException:
             os.unlink(unfinished)
             raise
     except OSError as error:
-        raise Refusal(f"{path} can't be written: {error.strerror}; give another folder: -o FOLDER",
-                      3) from None
+        raise Refusal(f"{path} can't be written: {error.strerror}; {advice}", 3) from None
 
 
-def read_bytes(path):
+def read_bytes(path: str) -> bytes:
     try:
         with open(path, "rb") as file:
             return file.read()
@@ -51,31 +60,14 @@ def read_bytes(path):
         raise Refusal(f"{path} can't be read: {error.strerror}") from None
 
 
-def same_file(path, other):
+def same_file(path: str, other: str) -> bool:
     try:
         return os.path.samefile(path, other)
     except OSError:
         return False
 
 
-def write(path, text):
-    """Writes the file whole or not at all."""
-    folder = os.path.dirname(path) or "."
-    try:
-        handle, temporary = tempfile.mkstemp(prefix=".nll-page.", suffix=".html", dir=folder)
-        try:
-            with os.fdopen(handle, "w", encoding="utf-8") as file:
-                file.write(text)
-            os.chmod(temporary, 0o666 & ~umask())
-            os.replace(temporary, path)
-        except BaseException:
-            os.unlink(temporary)
-            raise
-    except OSError as error:
-        raise Refusal(f"{path} can't be written: {error.strerror}; name another place by -o", 3) from None
-
-
-def umask():
+def umask() -> int:
     mask = os.umask(0)
     os.umask(mask)
     return mask

@@ -1,5 +1,7 @@
 """Finds `nllc` and runs it."""
 
+from __future__ import annotations
+
 import os
 import select
 import shutil
@@ -9,7 +11,8 @@ import sys
 import time
 from contextlib import ExitStack, suppress
 from functools import cache
-from typing import NamedTuple
+from io import FileIO
+from typing import Collection, NamedTuple, Optional
 
 from nllc_tools.base.refusal import Refusal
 
@@ -27,11 +30,18 @@ class RefusedText(Refusal):
     """`nllc` refuses a text."""
 
 
+class FaultLine(NamedTuple):
+    """That a region must outlive another one, and doesn't: their names, as `nllc check` prints them."""
+
+    sup: str
+    sub: str
+
+
 class Report(NamedTuple):
     """What `nllc` printed, and which `nllc` that was."""
 
     values: str
-    faults: list
+    faults: list[FaultLine]
     program: str
     standing: str
 
@@ -43,7 +53,7 @@ class Program(NamedTuple):
     standing: str
 
 
-def find():
+def find() -> str:
     """The program in the variable NLLC, the repository's `nllc.sh`, that of an installed copy, or the `nllc` on the PATH."""
     named = os.environ.get("NLLC")
     if named:
@@ -60,7 +70,7 @@ def find():
 
 
 @cache
-def program_of(found):
+def program_of(found: str) -> Program:
     """The program that is found; `nllc.sh` is asked once which one it runs, and compiles that if need be."""
     if os.path.basename(found) != "nllc.sh":
         is_installed = found in (os.path.join(ROOT, name) for name in INSTALLED)
@@ -71,6 +81,7 @@ def program_of(found):
             for line in asked.stderr or ():
                 sys.stderr.write(line)
                 sys.stderr.flush()
+            assert asked.stdout
             standing, _, path = asked.stdout.read().strip().partition(" ")
     except OSError as error:
         raise Refusal(f"{found} can't be run: {error.strerror}") from None
@@ -79,7 +90,7 @@ def program_of(found):
     return Program(path, STANDINGS[standing])
 
 
-def run(text):
+def run(text: bytes) -> Report:
     """Runs `values` and `check` on the text, side by side."""
     program, standing = program_of(find())
     values, check = both = [Run(program, command) for command in ("values", "check")]
@@ -89,7 +100,7 @@ def run(text):
     return Report(values.out, fault_lines(check.out), shown(program), standing)
 
 
-def has_faults(text):
+def has_faults(text: bytes) -> bool:
     """Whether `check` finds faults in the text."""
     check = Run(program_of(find()).path, "check")
     run_on(text, [check])
@@ -97,7 +108,7 @@ def has_faults(text):
     return check.status == 1
 
 
-def run_on(text, runs):
+def run_on(text: bytes, runs: list[Run]) -> None:
     """Runs all on the text, which stands in memory, and waits for them."""
     with in_memory() as copy, ExitStack() as started:
         copy.write(text)
@@ -107,7 +118,7 @@ def run_on(text, runs):
         wait(runs)
 
 
-def in_memory():
+def in_memory() -> FileIO:
     """A file without a name, which takes what is written at once."""
     return open(os.memfd_create("nllc"), "w+b", buffering=0)
 
@@ -115,13 +126,14 @@ def in_memory():
 class Run:
     """One process, and what it writes."""
 
-    def __init__(self, program, command):
+    def __init__(self, program: str, command: str):
         self.program, self.command = program, command
-        self.process = self.status = None
-        self.written = []
+        self.process: Optional[int] = None
+        self.status: Optional[int] = None
+        self.written: list[FileIO] = []
         self.out = self.err = ""
 
-    def start(self, text):
+    def start(self, text: FileIO) -> None:
         """Starts it; the text is its standard input, which it opens by its name, so from the beginning on."""
         self.written = [in_memory(), in_memory()]
         streams = [(os.POSIX_SPAWN_DUP2, file.fileno(), number) for number, file in enumerate([text, *self.written])]
@@ -131,12 +143,13 @@ class Run:
         except OSError as error:
             raise Refusal(f"{self.program} can't be run: {error.strerror}") from None
 
-    def end(self):
+    def end(self) -> None:
         """Waits until the process has ended, and takes what it wrote."""
+        assert self.process is not None
         self.status = os.waitstatus_to_exitcode(os.waitpid(self.process, 0)[1])
         self.out, self.err = (content_of(file) for file in self.written)
 
-    def stop(self):
+    def stop(self) -> None:
         """Ends it where it runs still."""
         if self.process is not None and self.status is None:
             with suppress(ProcessLookupError, ChildProcessError):
@@ -145,7 +158,7 @@ class Run:
         for file in self.written:
             file.close()
 
-    def judge(self, statuses):
+    def judge(self, statuses: Collection[int]) -> None:
         """Refuses with the line of `nllc` where it didn't answer."""
         status = self.status
         if status in statuses:
@@ -158,21 +171,21 @@ class Run:
 
 
 @cache
-def environment():
+def environment() -> dict[str, str]:
     return dict(os.environ)     # os.environ itself is read anew, variable by variable, at each start
 
 
-def content_of(file):
+def content_of(file: FileIO) -> str:
     file.seek(0)
     return file.read().decode("utf-8", "replace")
 
 
-def wait(runs):
+def wait(runs: list[Run]) -> None:
     """Waits for all; says so on standard error, each second, where somebody looks."""
     began = time.monotonic()
     told = False
     for run in runs:
-        while sys.stderr.isatty() and not is_ended(run.process):
+        while run.process is not None and sys.stderr.isatty() and not is_ended(run.process):
             sys.stderr.write(f"\rnllc computes the values ({time.monotonic() - began:.0f} s) ")
             sys.stderr.flush()
             told = True
@@ -181,7 +194,7 @@ def wait(runs):
         sys.stderr.write("\r\033[K")
 
 
-def is_ended(process):
+def is_ended(process: int) -> bool:
     """Whether a process of this one ends within a second; if the system can't say, it's waited for without a word."""
     try:
         watched = os.pidfd_open(process)
@@ -193,13 +206,13 @@ def is_ended(process):
         os.close(watched)
 
 
-def fault_lines(text):
-    """The pairs of names in the lines of `nllc check`."""
+def fault_lines(text: str) -> list[FaultLine]:
+    """What the lines of `nllc check` say."""
     words = [line.split() for line in text.splitlines()]
-    return [(w[1][1:], w[4][1:]) for w in words if len(w) == 5 and w[0] == "fault"]
+    return [FaultLine(w[1][1:], w[4][1:]) for w in words if len(w) == 5 and w[0] == "fault"]
 
 
-def shown(program):
+def shown(program: str) -> str:
     """The path of the program, in the repository from its root on."""
     inside = os.path.relpath(program, ROOT)
     return program if inside.startswith("..") else inside

@@ -45,6 +45,7 @@ def guarded_room(prefix: str) -> Iterator[str]:
             yield room
         finally:
             shutil.rmtree(room, ignore_errors=True)
+            assert guard.stdin
             guard.stdin.close()
 
 

@@ -5,7 +5,7 @@ import signal
 import sys
 from concurrent.futures import ProcessPoolExecutor
 from concurrent.futures.process import BrokenProcessPool
-from typing import Callable, Iterable, Iterator
+from typing import Callable, Iterable, Iterator, TypeVar
 
 from nllc_tools.base.refusal import Refusal
 from nllc_tools.base.rooms import end_with
@@ -13,15 +13,18 @@ from nllc_tools.base.rooms import end_with
 FEW = 8     # so few things are done sooner than other processes are started
 MOST_AT_ONCE = 16
 
+Thing = TypeVar("Thing")
+Result = TypeVar("Result")
 
-def side_by_side(work: Callable, things: Iterable, few: int = FEW) -> Iterator:
+
+def side_by_side(work: Callable[[Thing], Result], things: Iterable[Thing], few: int = FEW) -> Iterator[Result]:
     """What the work makes of each thing, in their order."""
     things = list(things)
     if len(things) <= few:
         yield from map(work, things)
         return
     at_once = min(MOST_AT_ONCE, 1 + len(things) // (8 * (os.cpu_count() or 1)))
-    pool = ProcessPoolExecutor(initializer=keep_silent, initargs=[os.getpid()])
+    pool = ProcessPoolExecutor(initializer=keep_silent, initargs=(os.getpid(),))
     try:
         yield from pool.map(work, things, chunksize=at_once)
     except BrokenProcessPool:

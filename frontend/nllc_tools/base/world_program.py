@@ -2,9 +2,9 @@
 
 import os
 import subprocess
-from typing import NamedTuple
+from typing import NamedTuple, Sequence
 
-from nllc_tools.base.nllc import PROVED, ROOT, UNKNOWN, UNPROVED, shown
+from nllc_tools.base.nllc import PROVED, ROOT, UNKNOWN, UNPROVED, Program, shown
 from nllc_tools.base.refusal import Refusal
 
 SCRIPT = os.path.join(ROOT, "frontend", "world_program.sh")
@@ -20,27 +20,28 @@ class Printed(NamedTuple):
     standing: str
 
 
-def find():
-    """The program in the variable WORLD_PROGRAM, or that of frontend/world_program.sh, and its standing."""
+def find() -> Program:
+    """The program in the variable WORLD_PROGRAM, or that of frontend/world_program.sh."""
     named = os.environ.get("WORLD_PROGRAM")
     if named:
-        return named, UNKNOWN
+        return Program(named, UNKNOWN)
     for name, standing in INSTALLED.items():
         if os.access(os.path.join(ROOT, name), os.X_OK):
-            return os.path.join(ROOT, name), standing
+            return Program(os.path.join(ROOT, name), standing)
     found = subprocess.run([SCRIPT], stdin=subprocess.DEVNULL, stdout=subprocess.PIPE, check=False)
     path = found.stdout.decode().strip()
     if found.returncode or not path:
         raise Refusal("there is no world_program", 3)
-    return path, UNPROVED if path.endswith("-unproved") else PROVED
+    return Program(path, UNPROVED if path.endswith("-unproved") else PROVED)
 
 
-def run(words):
+def run(words: Sequence[str]) -> Printed:
     """Runs the program on these words."""
     path, standing = find()
     try:
         with subprocess.Popen([path, *words], stdin=subprocess.DEVNULL, stdout=subprocess.PIPE,
                               stderr=subprocess.PIPE) as process:
+            assert process.stdout and process.stderr
             out = process.stdout.read(MOST_BYTES + 1)
             if len(out) > MOST_BYTES:
                 process.kill()

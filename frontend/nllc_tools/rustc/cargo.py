@@ -1,15 +1,21 @@
 """What rustc leaves of the packages of a Cargo project: `cargo check` with a wrapper around rustc."""
 
+from __future__ import annotations
+
 import json
 import os
 import shutil
 import subprocess
 import sys
+from typing import TYPE_CHECKING, NamedTuple
 
 from nllc_tools.base.command_line import current
 from nllc_tools.base.refusal import Refusal
 from nllc_tools.base.rooms import tied
 from nllc_tools.rustc.units import Unit, read_unit
+
+if TYPE_CHECKING:
+    from nllc_tools.rustc.diagnostics import CargoMessage, Diagnostic, Metadata
 
 HERE = os.path.dirname(os.path.abspath(__file__))
 WRAPPER = os.path.join(HERE, "rustc-wrapper")
@@ -64,16 +70,17 @@ def find_cargo() -> str:
     return cargo
 
 
-def metadata(cargo: str, folder: str) -> dict:
+def metadata(cargo: str, folder: str) -> Metadata:
     """What cargo says of the project: its packages, its target folder."""
     done = subprocess.run([cargo, "metadata", "--no-deps", "--format-version=1"], cwd=folder, check=False,
                           stdin=subprocess.DEVNULL, stdout=subprocess.PIPE)
     if done.returncode != 0:
         raise Refusal(f"cargo can't read the project of {folder}: fix the errors above")
-    return json.loads(done.stdout)
+    said: Metadata = json.loads(done.stdout)
+    return said
 
 
-def unchecked(known: dict, folder: str, packages: list[str], units: list[Unit]) -> list[str]:
+def unchecked(known: Metadata, folder: str, packages: list[str], units: list[Unit]) -> list[str]:
     """The packages that were asked for, and of which rustc has seen nothing."""
     own = [one for one in known["packages"] if os.path.samefile(os.path.dirname(one["manifest_path"]), folder)]
     members = [one for one in known["packages"] if one["id"] in known.get("workspace_default_members", known["workspace_members"])]
@@ -92,13 +99,20 @@ def show_others(stdout: bytes, units: list[Unit], is_json: bool) -> None:
     """Shows the errors that are of no unit, such as those of a dependency or a build script."""
     known = [mark_of(one) for unit in units for one in unit.diagnostics()]
     for line in stdout.splitlines():
-        message = json.loads(line).get("message", {}) if line.startswith(b"{") else {}
-        if message.get("level") == "error" and mark_of(message) not in known:
+        said: CargoMessage = json.loads(line) if line.startswith(b"{") else {}
+        message = said.get("message")
+        if message and message.get("level") == "error" and mark_of(message) not in known:
             print(json.dumps(message) if is_json else message["rendered"],
                   file=sys.stdout if is_json else sys.stderr)
 
 
-def mark_of(diagnostic: dict) -> tuple:
+class Mark(NamedTuple):
     """By what a diagnostic is known again that cargo hands on, perhaps without its colours."""
-    places = [(span["file_name"], span["line_start"], span["column_start"]) for span in diagnostic["spans"]]
-    return diagnostic["message"], places
+
+    message: str
+    places: list[tuple[str, int, int]]
+
+
+def mark_of(diagnostic: Diagnostic) -> Mark:
+    return Mark(diagnostic["message"], [(span["file_name"], span["line_start"], span["column_start"])
+                                        for span in diagnostic["spans"]])

@@ -1,10 +1,12 @@
 """What rustc left for each function, and how functions are named."""
 
+from __future__ import annotations
+
 import os
 import re
 from dataclasses import dataclass, replace
 from functools import lru_cache, partial
-from typing import Callable, Optional
+from typing import Callable, Iterable, NamedTuple, Optional
 
 from nllc_tools.rustc.mir.body_reader import read_body, read_outline
 from nllc_tools.rustc.mir.destructors import DROP_FUNCTION, destroyed_by
@@ -51,16 +53,33 @@ class Dump:
             and (span.first, span.column) < (line, column) < (span.last, span.end)
 
 
-def find_dumps(facts: str, mir: str, crate: str, root: str = "", each: Callable = map) -> list[Dump]:
+class DumpPaths(NamedTuple):
+    """The folder of a function's tables, and its MIR dump."""
+
+    facts: str
+    mir: str
+
+
+class DumpRead(NamedTuple):
+    """A function, and the type that it destroys, if it is a destructor."""
+
+    dump: Dump
+    destroyed: set[str]
+
+
+Each = Callable[[Callable[[DumpPaths], DumpRead], list[DumpPaths]], Iterable[DumpRead]]
+
+
+def find_dumps(facts: str, mir: str, crate: str, root: str = "", each: Each = map) -> list[Dump]:
     """All functions of one run of rustc, in the order of the source; `each` reads them, side by side if it likes.
 
     rustc names its files relatively to the folder in which it ran, which is `root`.
     """
     folders = sorted(os.listdir(facts)) if os.path.isdir(facts) else []
-    found = [(os.path.join(facts, folder), path) for folder in folders if (path := find_mir(mir, crate, folder))]
+    found = [DumpPaths(os.path.join(facts, folder), path) for folder in folders if (path := find_mir(mir, crate, folder))]
     read = list(each(partial(read_dump, root=root), found))
-    destructors = frozenset().union(*(destroyed for _, destroyed in read))
-    dumps = [replace(dump, destructors=destructors) for dump, _ in read]
+    destructors = frozenset(name for one in read for name in one.destroyed)
+    dumps = [replace(one.dump, destructors=destructors) for one in read]
     return sorted(dumps, key=lambda dump: (dump.span or Span("", 0, 0), dump.file_name))
 
 
@@ -69,15 +88,14 @@ def find_mir(mir: str, crate: str, folder: str) -> Optional[str]:
     return path if os.path.isfile(path) else None
 
 
-def read_dump(paths: tuple[str, str], root: str) -> tuple[Dump, set[str]]:
-    """The function of a folder of tables and a MIR dump, and the type that it destroys, if it is a destructor."""
+def read_dump(paths: DumpPaths, root: str) -> DumpRead:
     facts, mir = paths
     outline = read_outline(mir)
     name = IMPL_AT.sub(lambda found: impl_name(found, root), outline.path)
     own = own_places(outline.places, root)
     dump = Dump(name, file_name(os.path.basename(facts)), facts, mir, extent(own or outline.places), outline.is_function,
                 whole=extent(outline.places), is_of_macro=not own)
-    return dump, destroyed_in(outline.path, mir, root)
+    return DumpRead(dump, destroyed_in(outline.path, mir, root))
 
 
 def own_places(places: list[Span], root: str) -> list[Span]:
@@ -99,13 +117,13 @@ def file_name(folder: str) -> str:
     return re.sub(r"[^\w.-]+", "", folder).lstrip("-.") or "function"
 
 
-def impl_name(found: re.Match, root: str) -> str:
+def impl_name(found: re.Match[str], root: str) -> str:
     """The type of an `impl`."""
     header = impl_header(found, root)
     return header and type_name(header) or found[0]
 
 
-def impl_header(found: re.Match, root: str) -> Optional[str]:
+def impl_header(found: re.Match[str], root: str) -> Optional[str]:
     """How an `impl` begins, read from the source where rustc says only where it stands."""
     lines = lines_of(os.path.join(root, found[1]))[int(found[2]) - 1:int(found[4])]
     if not lines:

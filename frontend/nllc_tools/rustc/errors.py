@@ -1,10 +1,17 @@
 """The errors of rustc, as it writes them in JSON."""
 
+from __future__ import annotations
+
 import json
 import os
 import re
 from dataclasses import dataclass, field
-from typing import Callable, NamedTuple, Optional
+from typing import TYPE_CHECKING, Callable, NamedTuple, Optional
+
+from nllc_tools.base.grouping import grouped
+
+if TYPE_CHECKING:
+    from nllc_tools.rustc.diagnostics import Child, Diagnostic, DiagnosticSpan
 
 COLOUR = re.compile(r"\x1b\[[0-9;]*m")
 VARIANCE = re.compile(r"requirement occurs because of|invariant over")
@@ -12,7 +19,6 @@ SEE = re.compile(r"see <")
 ARROW = re.compile(r"--> (.*):(\d+):(\d+)")
 INVOCATION = "in this macro invocation"
 
-Home = Callable[[dict, str], dict]
 
 
 class Label(NamedTuple):
@@ -45,7 +51,7 @@ class Error:
     helps: list[str] = field(default_factory=list)
     root: str = ""
     within: Optional[Label] = None
-    inside: Optional["Error"] = None
+    inside: Optional[Error] = None
 
     @property
     def path(self) -> str:
@@ -84,7 +90,7 @@ def errors_in(stderr: bytes, root: str = "") -> list[Error]:
 def read_error(line: str, root: str = "") -> list[Error]:
     """The error that a line of rustc's JSON tells; what isn't JSON it tells before it has begun."""
     try:
-        said = json.loads(line)
+        said: Diagnostic = json.loads(line)
     except ValueError:
         return [Error(line + "\n", [])]
     if said.get("level") != "error" or not said.get("rendered"):
@@ -96,14 +102,14 @@ def without_colours(text: str) -> str:
     return COLOUR.sub("", text)
 
 
-def error_of(said: dict, root: str, home: Optional[Home] = None) -> Error:
+def error_of(said: Diagnostic, root: str, home: Optional[Callable[[DiagnosticSpan, str], DiagnosticSpan]] = None) -> Error:
     """The error of a diagnostic, of whichever level that is, with each place at home, which is in the user's own files."""
     home = home or at_home
     primary = [span for span in said.get("spans", ()) if span.get("is_primary")]
     spans = [home(span, root) for span in primary]
     places = [(span["file_name"], span["line_start"]) for span in spans]
     column = spans[0]["column_start"] if spans else 0
-    code = (said.get("code") or {}).get("code", "")
+    code = own["code"] if (own := said.get("code")) else ""
     labels = [place_of(home(span, root))._replace(text=span.get("label") or "") for span in said.get("spans", ())]
     labels += used_macro(home(primary[0], root)) if primary else []
     below = said.get("children", ())
@@ -114,7 +120,7 @@ def error_of(said: dict, root: str, home: Optional[Home] = None) -> Error:
     return Error(said["rendered"], places, column, code, said.get("message", ""), labels, notes, helps, root, within, inside)
 
 
-def within_macro(own: dict, home: dict, rendered: str) -> Optional[Label]:
+def within_macro(own: DiagnosticSpan, home: DiagnosticSpan, rendered: str) -> Optional[Label]:
     """The place of an error, where it is in a macro of another file and rustc shows it there."""
     shown = ARROW.search(without_colours(rendered))
     if own["file_name"] == home["file_name"] or not shown:
@@ -123,11 +129,9 @@ def within_macro(own: dict, home: dict, rendered: str) -> Optional[Label]:
     return place if shown.groups() == (place.file, str(place.line), str(place.column)) else None
 
 
-def used_macro(home: dict) -> list[Label]:
+def used_macro(home: DiagnosticSpan) -> list[Label]:
     """Where the macro is used in whose lines a place is; none for a place in no macro, or in what a macro takes."""
-    use = home
-    while use.get("expansion"):
-        use = use["expansion"]["span"]
+    use = outermost(home)
     is_argument = use is home or is_inside(place_of(home), place_of(use))
     return [] if is_argument else [place_of(use)._replace(text=INVOCATION)]
 
@@ -137,34 +141,36 @@ def is_inside(inner: Label, outer: Label) -> bool:
         and (inner.last, inner.end) <= (outer.last, outer.end)
 
 
-def help_of(child: dict) -> str:
+def help_of(child: Child) -> str:
     """What rustc advises, with the code that it proposes: the lines of the source as it would change them."""
-    lines: dict[int, list[dict]] = {}
-    for span in child["spans"]:
-        if span["suggested_replacement"] is not None and span["text"] and span["line_start"] == span["line_end"]:
-            lines.setdefault(span["line_start"], []).append(span)
-    code = [changed(spans) for _, spans in sorted(lines.items())]
+    changes = ((span["line_start"], span) for span in child["spans"] if span["suggested_replacement"] is not None
+               and span["text"] and span["line_start"] == span["line_end"])
+    code = [changed(spans) for _, spans in sorted(grouped(changes).items())]
     return f"{child['message']}: `{' .. '.join(code)}`" if code else child["message"]
 
 
-def changed(spans: list[dict]) -> str:
+def changed(spans: list[DiagnosticSpan]) -> str:
     """A line of the source with the replacements of these places."""
     line = spans[0]["text"][0]["text"]
     for span in sorted(spans, key=lambda one: -one["column_start"]):
-        line = line[:span["column_start"] - 1] + span["suggested_replacement"] + line[span["column_end"] - 1:]
+        line = line[:span["column_start"] - 1] + (span["suggested_replacement"] or "") + line[span["column_end"] - 1:]
     return " ".join(line.split())
 
 
-def place_of(span: dict) -> Label:
+def place_of(span: DiagnosticSpan) -> Label:
     return Label(span["file_name"], span["line_start"], span["column_start"], span["line_end"], span["column_end"], "")
 
 
-def at_home(span: dict, root: str) -> dict:
+def at_home(span: DiagnosticSpan, root: str) -> DiagnosticSpan:
     """The place in the user's own files: of what a macro of another file made, the macro's use."""
-    outermost = span
-    while outermost.get("expansion"):
-        outermost = outermost["expansion"]["span"]
-    while span.get("expansion") and (span["file_name"] != outermost["file_name"]
-                                     or not os.path.isfile(os.path.join(root, span["file_name"]))):
-        span = span["expansion"]["span"]
+    own = outermost(span)["file_name"]
+    while (use := span.get("expansion")) and (span["file_name"] != own or not os.path.isfile(os.path.join(root, span["file_name"]))):
+        span = use["span"]
+    return span
+
+
+def outermost(span: DiagnosticSpan) -> DiagnosticSpan:
+    """Where the macro is used that isn't itself in what another one makes; the place itself where none made it."""
+    while use := span.get("expansion"):
+        span = use["span"]
     return span

@@ -31,6 +31,10 @@ class Found(NamedTuple):
     def place(self) -> str:
         return f"line {self.dump.span.first}" if self.dump.span else "line ?"
 
+    def length(self) -> int:
+        """By how many lines its last one is below its first one."""
+        return self.dump.span.last - self.dump.span.first if self.dump.span else 0
+
     def has(self, path: str, line: int) -> bool:
         """Whether a line of a file is one of the function's; without a path, of whichever file."""
         span = self.dump.span
@@ -93,8 +97,9 @@ def all_of(unit: Unit, is_one_of_many: bool) -> list[Found]:
 def at_function(error: Error, dumps: list[Dump]) -> Error:
     """The error where it is inside a function that a macro of another file makes; else as it is, at the macro's use."""
     inside = error.inside
-    is_made = inside is not None and any(one.is_inside(*inside.places[0], inside.column) for one in dumps)
-    return inside if is_made else error
+    if inside is not None and any(one.is_inside(*inside.places[0], inside.column) for one in dumps):
+        return inside
+    return error
 
 
 def has_some_line(functions: list[Found], error: Error) -> bool:
@@ -105,7 +110,8 @@ def has_some_line(functions: list[Found], error: Error) -> bool:
 def functions_of(chosen: list[Found], by_unit: list[list[Found]], folder: str) -> list[Function]:
     """The functions with the names of their texts, which begin with the crate's where there are several."""
     dumps = {id(its[0].unit): [one.dump for one in its] for its in by_unit if its}
-    functions, taken = [], set()
+    functions: list[Function] = []
+    taken: set[str] = set()
     for name, unit, dump in chosen:
         file_name = dump.file_name if len(by_unit) == 1 else f"{unit.crate}-{dump.file_name}"
         path = free_path(folder, file_name, taken)
@@ -144,8 +150,8 @@ def at_line(found: list[Found], path: str, line: int) -> list[Found]:
         raise Refusal(f"no function with facts has line {line}{f' of {path}' if path else ''}")
     if len({one.path() for one in fitting}) > 1:
         raise Refusal(f"several files have a function at line {line}: give FILE:{line}")
-    least = min(one.dump.span.last - one.dump.span.first for one in fitting)
-    return [one for one in fitting if one.dump.span.last - one.dump.span.first == least]
+    least = min(map(Found.length, fitting))
+    return [one for one in fitting if one.length() == least]
 
 
 def the_one(fitting: list[Found], word: str) -> list[Found]:

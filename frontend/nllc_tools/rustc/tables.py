@@ -5,10 +5,12 @@ has two points for each location of MIR, `Start(bb2[0])` and `Mid(bb2[0])`: befo
 runs, and when it takes effect. Here such a point is a `Spot`.
 """
 
+from __future__ import annotations
+
 import os
 import re
 from dataclasses import dataclass
-from typing import Callable, NamedTuple
+from typing import Callable, NamedTuple, TypeVar
 
 from nllc_tools.base.refusal import Refusal
 
@@ -16,12 +18,16 @@ FIRST = '"Start(bb0[0])"'
 STRANGE = "this rustc's facts have another form than is known here; rustc 1.95 is known to work"
 SPOT = re.compile(r'"(Start|Mid)\(bb(\d+)\[(\d+)\]\)"')
 
+A = TypeVar("A")
+B = TypeVar("B")
+C = TypeVar("C")
+
 
 class Location(NamedTuple):
     """A statement or terminator of MIR: its block and its place there."""
 
     block: int
-    index: int
+    index: int  # type: ignore[assignment]  # it hides the method of tuples
 
     def __str__(self) -> str:
         return f"bb{self.block}[{self.index}]"
@@ -56,7 +62,7 @@ class Tables:
     cfg_edge: list[tuple[Spot, Spot]]
     universal_region: list[int]
     known_placeholder_subset: list[tuple[int, int]]
-    subset_base: "Subsets"
+    subset_base: Subsets
     loan_issued_at: list[tuple[int, int, Spot]]
     loan_killed_at: list[tuple[int, Spot]]
     loan_invalidated_at: list[tuple[Spot, int]]
@@ -80,14 +86,14 @@ def read_tables(folder: str) -> Tables:
         raise Refusal(f"{folder}: {STRANGE}") from None
 
 
-class Known(dict):
+class Known(dict[str, A]):
     """What fields mean; each is read once."""
 
-    def __init__(self, read: Callable):
+    def __init__(self, read: Callable[[str], A]):
         super().__init__()
         self.read = read
 
-    def __missing__(self, field: str):
+    def __missing__(self, field: str) -> A:
         value = self[field] = self.read(field)
         return value
 
@@ -103,23 +109,23 @@ class Reader:
     def tables(self) -> Tables:
         spots, regions, variables, loans, paths = self.spot, self.region, self.variable, self.loan, self.path
         return Tables(
-            cfg_edge=self.rows("cfg_edge", spots, spots),
-            universal_region=[a for a, in self.rows("universal_region", regions)],
-            known_placeholder_subset=self.rows("known_placeholder_subset", regions, regions),
+            cfg_edge=self.pairs("cfg_edge", spots, spots),
+            universal_region=self.column("universal_region", regions),
+            known_placeholder_subset=self.pairs("known_placeholder_subset", regions, regions),
             subset_base=self.subsets(),
-            loan_issued_at=self.rows("loan_issued_at", regions, loans, spots),
-            loan_killed_at=self.rows("loan_killed_at", loans, spots),
-            loan_invalidated_at=self.rows("loan_invalidated_at", spots, loans),
-            use_of_var_derefs_origin=self.rows("use_of_var_derefs_origin", variables, regions),
-            drop_of_var_derefs_origin=self.rows("drop_of_var_derefs_origin", variables, regions),
-            var_used_at=self.rows("var_used_at", variables, spots),
-            var_defined_at=self.rows("var_defined_at", variables, spots),
-            var_dropped_at=self.rows("var_dropped_at", variables, spots),
-            path_is_var=self.rows("path_is_var", paths, variables),
-            child_path=self.rows("child_path", paths, paths),
-            path_assigned_at_base=self.rows("path_assigned_at_base", paths, spots),
-            path_moved_at_base=self.rows("path_moved_at_base", paths, spots),
-            path_accessed_at_base=self.rows("path_accessed_at_base", paths, spots),
+            loan_issued_at=self.triples("loan_issued_at", regions, loans, spots),
+            loan_killed_at=self.pairs("loan_killed_at", loans, spots),
+            loan_invalidated_at=self.pairs("loan_invalidated_at", spots, loans),
+            use_of_var_derefs_origin=self.pairs("use_of_var_derefs_origin", variables, regions),
+            drop_of_var_derefs_origin=self.pairs("drop_of_var_derefs_origin", variables, regions),
+            var_used_at=self.pairs("var_used_at", variables, spots),
+            var_defined_at=self.pairs("var_defined_at", variables, spots),
+            var_dropped_at=self.pairs("var_dropped_at", variables, spots),
+            path_is_var=self.pairs("path_is_var", paths, variables),
+            child_path=self.pairs("child_path", paths, paths),
+            path_assigned_at_base=self.pairs("path_assigned_at_base", paths, spots),
+            path_moved_at_base=self.pairs("path_moved_at_base", paths, spots),
+            path_accessed_at_base=self.pairs("path_accessed_at_base", paths, spots),
         )
 
     def text(self, table: str) -> str:
@@ -130,18 +136,34 @@ class Reader:
         except OSError:
             raise Refusal(f"{name} isn't there: {STRANGE}") from None
 
-    def rows(self, table: str, *columns: Known) -> list[tuple]:
+    def column(self, table: str, known: Known[A]) -> list[A]:
+        """The rows of a table, by what its field means."""
+        fields, = self.fields(table, 1)
+        return list(map(known.__getitem__, fields))
+
+    def pairs(self, table: str, first: Known[A], second: Known[B]) -> list[tuple[A, B]]:
         """The rows of a table, by what the fields of its columns mean."""
+        firsts, seconds = self.fields(table, 2)
+        return list(zip(map(first.__getitem__, firsts), map(second.__getitem__, seconds)))
+
+    def triples(self, table: str, first: Known[A], second: Known[B], third: Known[C]) -> list[tuple[A, B, C]]:
+        firsts, seconds, thirds = self.fields(table, 3)
+        return list(zip(map(first.__getitem__, firsts), map(second.__getitem__, seconds), map(third.__getitem__, thirds)))
+
+    def fields(self, table: str, width: int) -> list[list[str]]:
+        """The fields of a table, column by column."""
         text = self.text(table)
-        if text.count("\t") != text.count("\n") * (len(columns) - 1):
+        if text.count("\t") != text.count("\n") * (width - 1):
             raise ValueError(table)
         fields = text.replace("\t", "\n").split("\n")
-        return list(zip(*(map(known.__getitem__, fields[at:-1:len(columns)]) for at, known in enumerate(columns))))
+        return [fields[at:-1:width] for at in range(width)]
 
     def subsets(self) -> Subsets:
         """Reads millions of rows, nearly all of pairs that hold everywhere: the rows of such a pair follow one another."""
         lines = self.text("subset_base").split("\n")[:-1]
-        everywhere, located, at, length = set(), set(), 0, 1
+        everywhere: set[str] = set()
+        located: set[tuple[str, str]] = set()
+        at, length = 0, 1
         while at < len(lines):
             pair, _, field = lines[at].rpartition("\t")
             if field == FIRST:

@@ -3,22 +3,36 @@
 rustc runs twice, side by side: as it is, and by another borrow checker, so that it leaves facts and MIR.
 """
 
+from __future__ import annotations
+
 import glob
 import json
 import os
 import subprocess
 from dataclasses import dataclass, field
-from typing import Callable, Optional
+from typing import TYPE_CHECKING, Callable, Optional, TypedDict
 
 from nllc_tools.base.refusal import Refusal
 from nllc_tools.base.rooms import tied
 from nllc_tools.rustc.compiler import NO_RUSTC, crate_name, find_rustc, flags, judge, refuse_others
 from nllc_tools.rustc.errors import Error, errors_in
 
+if TYPE_CHECKING:
+    from nllc_tools.rustc.diagnostics import Diagnostic
+
 NOTE = "unit.json"
 PLAIN = "plain.json"        # what rustc says as it is
 LEAVING = "leaving.json"    # what it says where it leaves facts
 NO_LINTS = "--cap-lints=allow"      # where it leaves facts: what lints refuse it says as it is
+
+
+class Note(TypedDict):
+    """What is noted in a unit's folder, as JSON: the crate, where rustc ran, which one, and its status where it leaves facts."""
+
+    crate: str
+    root: str
+    rustc: str
+    status: int
 
 
 @dataclass(frozen=True)
@@ -38,9 +52,9 @@ class Unit:
     def mir(self) -> str:
         return os.path.join(self.folder, "mir")
 
-    def diagnostics(self) -> list[dict]:
+    def diagnostics(self) -> list[Diagnostic]:
         """What rustc as it is says of the crate, errors and warnings, as it says it."""
-        said = [json.loads(line) for line in bytes_of(self.folder, PLAIN).splitlines() if line.startswith(b"{")]
+        said: list[Diagnostic] = [json.loads(line) for line in bytes_of(self.folder, PLAIN).splitlines() if line.startswith(b"{")]
         return [one for one in said if one.get("spans") is not None]
 
 
@@ -73,7 +87,7 @@ def run_both(plain: list[str], leaving: list[str], folder: str, crate: str,
             subprocess.Popen(plain, stdin=subprocess.DEVNULL, stderr=subprocess.PIPE, env=os.environ | variables,
                              preexec_fn=tied()) as first:
         try:
-            for line in first.stderr:
+            for line in first.stderr or ():
                 kept.write(line)
                 if tell:
                     tell(line)
@@ -83,14 +97,14 @@ def run_both(plain: list[str], leaving: list[str], folder: str, crate: str,
             second.kill()
             raise
     with open(os.path.join(folder, NOTE), "w", encoding="utf-8") as file:
-        json.dump({"crate": crate, "root": os.getcwd(), "rustc": plain[0], "status": second.returncode}, file)
+        json.dump(Note(crate=crate, root=os.getcwd(), rustc=plain[0], status=second.returncode), file)
     return first.returncode
 
 
 def read_unit(folder: str) -> Unit:
     """The unit of a folder; refuses where rustc didn't know its words, or stopped without a reason."""
     with open(os.path.join(folder, NOTE), encoding="utf-8") as file:
-        noted = json.load(file)
+        noted: Note = json.load(file)
     root = relative(noted["root"])
     plain, leaving = (errors_in(bytes_of(folder, name), root) for name in (PLAIN, LEAVING))
     judge(noted["status"], leaving, noted["rustc"])

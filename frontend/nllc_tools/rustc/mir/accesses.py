@@ -39,17 +39,17 @@ def accesses(statement: str) -> list[Access]:
     for word, way in (("StorageDead(", "ends"), ("drop(", "drops")):
         if text.startswith(word):
             found = read_place(text, len(word))
-            return [Access(way, found[0])] if found else []
+            return [Access(way, found.place)] if found else []
     return list(of_statement(text))
 
 
 def of_statement(text: str) -> Iterator[Access]:
     """What is read, moved and borrowed, and then what is assigned to."""
-    target = read_place(text)
-    begin = target[1] if target and text.startswith(" = ", target[1]) else 0
-    for way in WAYS.finditer(text, begin):
+    read = read_place(text)
+    target = read if read and text.startswith(" = ", read.end) else None
+    for way in WAYS.finditer(text, target.end if target else 0):
         found = read_place(text, way.end())
         if found:
-            yield Access(way.lastgroup, found[0])
-    if begin:
-        yield Access("assigns", target[0])
+            yield Access(way.lastgroup or "", found.place)
+    if target:
+        yield Access("assigns", target.place)

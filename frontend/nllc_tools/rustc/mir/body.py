@@ -6,7 +6,8 @@ that the problem itself needs is in the fact tables, save which terminators leav
 
 import re
 from dataclasses import dataclass, field
-from typing import Iterator, NamedTuple, Optional
+from itertools import chain
+from typing import Iterator, NamedTuple, Optional, Union
 
 from nllc_tools.rustc.mir.debug_places import Place
 from nllc_tools.rustc.mir.spans import Span
@@ -84,9 +85,10 @@ class Body:
     def name_of(self, place: Place) -> Optional[str]:
         """The name of the variable of which a place is a part; in a closure, of what it has captured, too."""
         root = self.locals.get(place.local)
-        names = (name for captured, name in self.captured.items()
-                 if captured.local == place.local and captured.steps == place.steps[:len(captured.steps)])
-        return root.name if root and root.name else next(names, None)
+        if root and root.name:
+            return root.name
+        return next((name for captured, name in self.captured.items()
+                     if captured.local == place.local and captured.steps == place.steps[:len(captured.steps)]), None)
 
     def function_span(self, location: Location) -> Optional[Span]:
         """Where the function stands that is called there: its name, or else the temporary that has it."""
@@ -99,9 +101,8 @@ class Body:
 
     def spans(self) -> Iterator[Span]:
         """The places in the source that the dump names."""
-        for thing in [*self.locals.values(), *self.statements.values()]:
-            if thing.span is not None:
-                yield thing.span
+        things: Iterator[Union[Local, Statement]] = chain(self.locals.values(), self.statements.values())
+        return (thing.span for thing in things if thing.span is not None)
 
 
 def methods_on_results(body: Body) -> Iterator[tuple[Location, Span]]:

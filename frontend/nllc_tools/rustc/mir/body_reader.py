@@ -195,5 +195,5 @@ def read_declaration(body: Body, code: str, span: Optional[Span]) -> None:
         length = span.end - span.column if span else 0
         local.is_mutable |= length == len("mut self") if found[1] == "self" else length > len(found[1])
     elif found := CAPTURED.fullmatch(code):
-        if place := read_place(found[2]):
-            body.captured.setdefault(place[0], found[1].replace("__", "."))
+        if read := read_place(found[2]):
+            body.captured.setdefault(read.place, found[1].replace("__", "."))

@@ -1,11 +1,14 @@
 """Where a closure uses what it borrows from the function around it."""
 
+from __future__ import annotations
+
 import os
 import re
 from bisect import bisect_left
 from functools import lru_cache
 from typing import Collection, Iterator, NamedTuple, Optional
 
+from nllc_tools.rustc.dumps import Dump
 from nllc_tools.rustc.mir.body import Body, Statement
 from nllc_tools.rustc.mir.body_reader import read_body
 from nllc_tools.rustc.mir.debug_places import Place, read_place
@@ -37,35 +40,47 @@ class Capture(NamedTuple):
     is_async: bool = False
 
 
-def capture_of(dump, body: Body, variable: Optional[int], uses: Collection[Location]) -> Optional[Capture]:
+class Taken(NamedTuple):
+    """A statement that takes a variable into a closure or borrows it for one, and the use in there."""
+
+    location: Location
+    variable: int
+    use: Optional[Span]
+
+
+def capture_of(dump: Dump, body: Body, variable: Optional[int], uses: Collection[Location]) -> Optional[Capture]:
     """The capture for which the borrow in a variable is made; None where it is made for no closure."""
     for location in uses:
-        if body.locals[variable].name is None and MADE.search(body.statements[location].text):
+        if variable is not None and body.locals[variable].name is None and MADE.search(body.statements[location].text):
             return capture_at(dump.mir, body.statements[location], Place(variable))
     return None
 
 
-def captures(dump, body: Body) -> Iterator[tuple[Location, int, Optional[Span]]]:
+def captures(dump: Dump, body: Body) -> Iterator[Taken]:
     """Each statement that takes a variable into a closure or borrows it for one, with the use in there."""
     borrows = {int(found[1]): (location, int(found[2])) for location, said in body.statements.items()
                if (found := BORROW.match(said.text))}
     for location, said in sorted(body.statements.items()):
         made = MADE.search(said.text)
-        for one in OPERAND.finditer(made[2] or "") if made else ():
-            taken = read_place(made[2], one.end())
+        for taken in operands(made[2]) if made else ():
             if taken:
-                use = capture_at(dump.mir, said, taken[0]).use
-                yield location, taken[0].local, use
-                if taken[0].local in borrows:
-                    yield (*borrows[taken[0].local], use)
+                use = capture_at(dump.mir, said, taken).use
+                yield Taken(location, taken.local, use)
+                if taken.local in borrows:
+                    yield Taken(*borrows[taken.local], use)
+
+
+def operands(inside: Optional[str]) -> list[Optional[Place]]:
+    """The places that a closure takes, by what stands between its braces; None for what is no place."""
+    read = [read_place(inside, one.end()) for one in OPERAND.finditer(inside)] if inside else []
+    return [one and one.place for one in read]
 
 
 def capture_at(mir: str, said: Statement, place: Place) -> Capture:
     """What the closure that a statement makes takes by an operand."""
     made = MADE.search(said.text)
-    inside = made[2] or ""
-    taken = [read_place(inside, one.end()) for one in OPERAND.finditer(inside)]
-    index = next((n for n, one in enumerate(taken) if one and one[0] == place), None)
+    assert made
+    index = next((number for number, one in enumerate(operands(made[2])) if one == place), None)
     return Capture(home_of(made[1], said.span), *use_inside(mir, made[1], index))
 
 
@@ -111,9 +126,9 @@ def dumps_in(folder: str) -> list[str]:
 
 def deeper(mir: str, body: Body, said: Statement, behind: str) -> Use:
     """Where a statement of a closure stands; where it borrows for a closure inside, the use in there."""
-    target = TARGET.match(said.text)
-    taken = re.compile(rf"\b(?:move|copy) {target[1]}\b") if target else None
-    made = next((one for one in body.statements.values()
-                 if taken and MADE.search(one.text) and taken.search(one.text)), None)
-    use = capture_at(mir, made, Place(int(target[1][1:]))) if made else Capture(None, None, False)
+    use = Capture(None, None, False)
+    if target := TARGET.match(said.text):
+        taken = re.compile(rf"\b(?:move|copy) {target[1]}\b")
+        made = next((one for one in body.statements.values() if MADE.search(one.text) and taken.search(one.text)), None)
+        use = capture_at(mir, made, Place(int(target[1][1:]))) if made else use
     return Use(use.use or said.span, use.is_behind or re.search(behind, said.text) is not None)

@@ -1,9 +1,9 @@
 """What rustc writes in remarks below a statement: the types of constants that have a name, and what closures capture."""
 
 import re
-from typing import Optional
+from typing import NamedTuple, Optional
 
-from nllc_tools.rustc.mir.statements import Assign, Call, Constant
+from nllc_tools.rustc.mir.statements import Assign, Call, Constant, Line, Operand
 from nllc_tools.rustc.mir.type_reader import Reader, read_type
 from nllc_tools.rustc.mir.types import Type
 from nllc_tools.rustc.tables import Location
@@ -13,7 +13,14 @@ REMARK = "// + const_: Const { ty: "
 VALUE = ", val: Unevaluated("
 CAPTURES = re.compile(r" +// (?:closure|coroutine)\n(?: +// .*\n)*?(?: +// {5}(\(.*\)),\n)? +// \]\n")
 
-Known = dict[Location, list[tuple[str, Type]]]
+class NamedConstant(NamedTuple):
+    """A constant that has a name, and its type."""
+
+    name: str
+    type: Type
+
+
+Known = dict[Location, list[NamedConstant]]
 
 
 def named_constants(text: str) -> Known:
@@ -29,7 +36,7 @@ def named_constants(text: str) -> Known:
             location = Location(int(named[1]), int(named[2])) if named else location
         elif VALUE in line and location is not None:
             type, _, name = line[at + len(REMARK):].partition(VALUE)
-            found.setdefault(location, []).append((last_word(name), read_type(type)))
+            found.setdefault(location, []).append(NamedConstant(last_word(name), read_type(type)))
     return found
 
 
@@ -64,18 +71,18 @@ def last_word(text: str) -> str:
     return promoted[1] if promoted else re.split(r", \[", text)[0].rpartition("::")[2].rstrip(">")
 
 
-def with_types(line, known: list[tuple[str, Type]]):
+def with_types(line: Line, known: list[NamedConstant]) -> Line:
     """The line with the types of its constants; one whose name isn't known stays without."""
     if not isinstance(line, (Assign, Call)):
         return line
     left = list(known)
 
-    def typed(operand):
+    def typed(operand: Operand) -> Operand:
         if isinstance(operand, Constant) and operand.type is None:
             for one in left:
-                if operand.text.endswith(one[0]):
+                if operand.text.endswith(one.name):
                     left.remove(one)
-                    return Constant(operand.text, one[1])
+                    return Constant(operand.text, one.type)
         return operand
 
     return line._replace(operands=tuple(map(typed, line.operands)))

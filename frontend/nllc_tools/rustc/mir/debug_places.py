@@ -1,5 +1,7 @@
 """Reads places of MIR, such as `((*_1).0: T)[_5]`, and tells whether two of them overlap."""
 
+from __future__ import annotations
+
 import re
 from typing import NamedTuple, Optional
 
@@ -17,9 +19,16 @@ class Place(NamedTuple):
     steps: tuple[str, ...] = ()
     has_lifetimes: bool = False
 
-    def onward(self, step: str, kind: str = "") -> "Place":
+    def onward(self, step: str, kind: str = "") -> Place:
         """The place one step on, to a field of this type."""
         return Place(self.local, (*self.steps, step), self.has_lifetimes or "&" in kind or "'" in kind)
+
+
+class PlaceRead(NamedTuple):
+    """A place that was read, and where its text ends."""
+
+    place: Place
+    end: int
 
 
 def closing(text: str, begin: int) -> int:
@@ -32,7 +41,7 @@ def closing(text: str, begin: int) -> int:
     return len(text)
 
 
-def read_place(text: str, at: int = 0) -> Optional[tuple[Place, int]]:
+def read_place(text: str, at: int = 0) -> Optional[PlaceRead]:
     """The place that begins there, and where it ends; None where none begins."""
     found = read_inner(text, at)
     if not found:
@@ -41,14 +50,14 @@ def read_place(text: str, at: int = 0) -> Optional[tuple[Place, int]]:
     while text.startswith("[", end) and "]" in text[end:]:
         place = place.onward("[]")
         end = text.index("]", end) + 1
-    return place, end
+    return PlaceRead(place, end)
 
 
-def read_inner(text: str, at: int) -> Optional[tuple[Place, int]]:
+def read_inner(text: str, at: int) -> Optional[PlaceRead]:
     """A variable, or a step in brackets."""
     local = LOCAL.match(text, at)
     if local:
-        return Place(int(local[1])), local.end()
+        return PlaceRead(Place(int(local[1])), local.end())
     if not text.startswith("(", at):
         return None
     is_deref = text.startswith("(*", at)
@@ -56,13 +65,13 @@ def read_inner(text: str, at: int) -> Optional[tuple[Place, int]]:
     if not inner:
         return None
     place, end = inner
-    step = FIELD.match(text, end)
-    if not is_deref and not step:
-        return None
     last = closing(text, at)
     if is_deref:
-        return place.onward("*"), last + 1
-    return place.onward(step[1] or f"as {step[2]}", text[step.end():last] if step[1] else ""), last + 1
+        return PlaceRead(place.onward("*"), last + 1)
+    step = FIELD.match(text, end)
+    if not step:
+        return None
+    return PlaceRead(place.onward(step[1] or f"as {step[2]}", text[step.end():last] if step[1] else ""), last + 1)
 
 
 def overlap(one: Place, other: Place) -> bool:

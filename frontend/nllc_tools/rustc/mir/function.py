@@ -1,5 +1,7 @@
 """Reads one function of rustc: its variables, its lines, its regions, and what it asks of them."""
 
+from __future__ import annotations
+
 import re
 from collections import defaultdict
 from dataclasses import dataclass, field
@@ -11,7 +13,7 @@ from nllc_tools.rustc.mir.body import Body, Reason
 from nllc_tools.rustc.mir.body_reader import read_body
 from nllc_tools.rustc.mir.constants import Known, captures, named_constants, with_types
 from nllc_tools.rustc.mir.statement_reader import read_statement, read_terminator
-from nllc_tools.rustc.mir.statements import Assign, Call, Constant, Drop, Jump, Place, Read, Storage
+from nllc_tools.rustc.mir.statements import Assign, Call, Constant, Drop, Jump, Line, Operand, Place, Read, Storage
 from nllc_tools.rustc.mir.type_reader import read_type
 from nllc_tools.rustc.mir.types import STATIC, Type
 from nllc_tools.rustc.tables import Location, Reader as Tables
@@ -30,14 +32,14 @@ class Function:
     name: str
     body: Body
     locals: dict[int, Type]
-    lines: dict[Location, tuple]
+    lines: dict[Location, Line]
     universals: list[int]
     outlives: list[tuple[int, int]]
     drops: dict[int, set[int]]
     asked: dict[Optional[Location], list[Reason]] = field(default_factory=dict)
     visible: set[int] = field(default_factory=set)
 
-    def paths(self, location: Location) -> "Paths":
+    def paths(self, location: Location) -> Paths:
         return Paths(self, location)
 
 
@@ -48,16 +50,16 @@ def read_function(dump: Dump) -> Function:
         text = file.read()
     refuse_strange(text, body)
     tables = Tables(dump.facts)
-    drops = defaultdict(set)
-    for local, origin in tables.rows("drop_of_var_derefs_origin", tables.variable, tables.region):
+    drops: dict[int, set[int]] = defaultdict(set)
+    for local, origin in tables.pairs("drop_of_var_derefs_origin", tables.variable, tables.region):
         drops[local].add(origin)
     function = Function(
         name=dump.name,
         body=body,
         locals={number: read_type(local.type) for number, local in sorted(body.locals.items())},
         lines=read_lines(body, named_constants(text)),
-        universals=[origin for origin, in tables.rows("universal_region", tables.region)],
-        outlives=tables.rows("known_placeholder_subset", tables.region, tables.region),
+        universals=tables.column("universal_region", tables.region),
+        outlives=tables.pairs("known_placeholder_subset", tables.region, tables.region),
         drops=drops,
     )
     refuse_undeclared(function)
@@ -98,13 +100,14 @@ def refuse_unprinted(function: Function, counts: dict[Location, int]) -> None:
             raise NotSaid("captures that rustc doesn't print")
 
 
-def read_lines(body: Body, constants: Known) -> dict[Location, tuple]:
+def read_lines(body: Body, constants: Known) -> dict[Location, Line]:
     """Each statement and terminator, with the types of its constants."""
     last: dict[int, int] = {}
     for location in body.statements:
         last[location.block] = max(last.get(location.block, 0), location.index)
-    lines = {location: (read_terminator if last[location.block] == location.index else read_statement)(statement.text)
-             for location, statement in body.statements.items()}
+    lines: dict[Location, Line] = {}
+    for location, (text, _, _) in body.statements.items():
+        lines[location] = read_terminator(text) if last[location.block] == location.index else read_statement(text)
     for location, known in constants.items():
         lines[location] = with_types(lines[location], known)
     return lines
@@ -132,7 +135,7 @@ def visible_regions(function: Function) -> set[int]:
     return found
 
 
-def written_regions(line) -> Iterator[int]:
+def written_regions(line: Line) -> Iterator[int]:
     """The regions that a line writes, save those of the types of places."""
     if isinstance(line, Assign):
         if line.kind in ("ref", "mut", "fake"):
@@ -144,27 +147,24 @@ def written_regions(line) -> Iterator[int]:
             yield from constant.type.regions()
 
 
-def constants_of(line) -> Iterator[Constant]:
-    operands = []
+def operands_of(line: Line) -> Iterator[Operand]:
     if isinstance(line, (Assign, Call)):
-        operands += line.operands
+        yield from line.operands
     if isinstance(line, Call):
-        operands.append(line.function)
-    return (operand for operand in operands if isinstance(operand, Constant))
+        yield line.function
+    if isinstance(line, Jump) and line.operand is not None:
+        yield line.operand
 
 
-def places_of(line) -> Iterator[Place]:
+def constants_of(line: Line) -> Iterator[Constant]:
+    return (operand for operand in operands_of(line) if isinstance(operand, Constant))
+
+
+def places_of(line: Line) -> Iterator[Place]:
     """The places of a line, its target first."""
     if isinstance(line, (Assign, Call, Read, Drop)):
         yield line.place
-    operands = []
-    if isinstance(line, (Assign, Call)):
-        operands += line.operands
-    if isinstance(line, Call):
-        operands.append(line.function)
-    if isinstance(line, Jump):
-        operands.append(line.operand)
-    yield from (operand for operand in operands if isinstance(operand, Place))
+    yield from (operand for operand in operands_of(line) if isinstance(operand, Place))
 
 
 class Paths:
@@ -212,6 +212,6 @@ class Paths:
         return self.needing(lambda reason: reason.category not in OF_TYPES or reason.span != self.span)
 
 
-def reached(onwards: dict[int, list[int]], begin: int, is_end) -> set[int]:
+def reached(onwards: dict[int, list[int]], begin: int, is_end: Callable[[int], bool]) -> set[int]:
     """What a region leads to, which goes on through those that are no ends."""
     return walks.reached(onwards.get(begin, ()), lambda one: () if is_end(one) else onwards.get(one, ()))

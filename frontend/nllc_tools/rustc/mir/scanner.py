@@ -1,7 +1,9 @@
 """Goes through a line that rustc prints."""
 
+from __future__ import annotations
+
 import re
-from typing import Union
+from typing import Optional
 
 from nllc_tools.rustc.unsaid import NotSaid
 
@@ -27,7 +29,7 @@ class Scanner:
         if not self.takes(words):
             raise self.strange()
 
-    def match(self, pattern: re.Pattern) -> Union[re.Match, None]:
+    def match(self, pattern: re.Pattern[str]) -> Optional[re.Match[str]]:
         found = pattern.match(self.text, self.at)
         if found:
             self.at = found.end()

@@ -5,7 +5,7 @@ from functools import lru_cache
 from typing import Optional
 
 from nllc_tools.rustc.mir.statements import (Assign, Call, Constant, Drop, Jump, Leave, Nothing, Operand, Place, Read,
-                                             Step, Storage)
+                                             Statement, Step, Storage, Terminator)
 from nllc_tools.rustc.mir.type_reader import Reader, simplified
 from nllc_tools.rustc.unsaid import NotSaid
 
@@ -81,7 +81,7 @@ class Lines(Reader):
         text = self.text[begin:self.at]
         return Constant(text, None)
 
-    def operands(self, closer: str) -> tuple:
+    def operands(self, closer: str) -> tuple[Operand, ...]:
         found = []
         while not self.takes(closer):
             begin = self.at
@@ -121,15 +121,11 @@ class Lines(Reader):
         return self.made(place)
 
     def pair(self, place: Place, word: str) -> Assign:
-        if word == "discriminant(":
-            found = (self.place(),)
-            self.must(")")
-        elif word == "Len(":
-            found = (self.place(),)
-            self.must(")")
-        else:
-            found = self.operands(")")
-        return Assign(place, "pair", found, word=word[:-1])
+        if word not in ("discriminant(", "Len("):
+            return Assign(place, "pair", self.operands(")"), word=word[:-1])
+        found = self.place()
+        self.must(")")
+        return Assign(place, "pair", (found,), word=word[:-1])
 
     def used(self, place: Place) -> Assign:
         operand = self.operand()
@@ -168,7 +164,7 @@ class Lines(Reader):
 
 
 @lru_cache(4096)
-def read_statement(text: str):
+def read_statement(text: str) -> Statement:
     """The statement of a text."""
     for word, is_live in (("StorageLive(_", True), ("StorageDead(_", False)):
         if text.startswith(word):
@@ -207,16 +203,12 @@ def targets_of(text: str) -> tuple[str, dict[str, Optional[int]]]:
     return text[:found.start()], blocks
 
 
-def there(blocks: dict[str, Optional[int]]) -> tuple:
-    found = []
-    for block in blocks.values():
-        if block is not None and block not in found:
-            found.append(block)
-    return tuple(found)
+def there(blocks: dict[str, Optional[int]]) -> tuple[int, ...]:
+    return tuple(dict.fromkeys(block for block in blocks.values() if block is not None))
 
 
 @lru_cache(4096)
-def read_terminator(text: str):
+def read_terminator(text: str) -> Terminator:
     """The terminator of a text."""
     if text in ("return", "resume", "coroutine_drop"):
         return Leave(True)
@@ -224,7 +216,7 @@ def read_terminator(text: str):
         return Leave(False)
     head, blocks = targets_of(text)
     reader = Lines(simplified(head))
-    if head == "goto" or head in ("falseEdge", "falseUnwind"):
+    if head in ("goto", "falseEdge", "falseUnwind"):
         return Jump(there(blocks))
     if reader.takes("switchInt("):
         return Jump(there(blocks), reader.operand())
@@ -235,10 +227,10 @@ def read_terminator(text: str):
         return Drop(reader.place(), there(blocks))
     if " = yield(" in head:
         raise NotSaid("a coroutine")
-    if head.startswith(("asm!", "_")) is False and not head.startswith("("):
-        raise NotSaid("a terminator that isn't understood", head[:40])
     if head.startswith("asm!"):
         raise NotSaid("assembler")
+    if not head.startswith(("_", "(")):
+        raise NotSaid("a terminator that isn't understood", head[:40])
     place = reader.place()
     reader.must(" = ")
     return called(place, reader, blocks)

@@ -2,7 +2,7 @@
 
 from typing import NamedTuple, Optional, Union
 
-from nllc_tools.rustc.mir.types import Region, Type
+from nllc_tools.rustc.mir.types import Type
 
 
 class Step(NamedTuple):
@@ -18,7 +18,7 @@ class Place(NamedTuple):
     """A variable and steps from it; an operand says whether it is moved."""
 
     local: int
-    steps: tuple = ()
+    steps: tuple[Step, ...] = ()
     is_moved: bool = False
 
 
@@ -42,10 +42,10 @@ class Assign(NamedTuple):
 
     place: Place
     kind: str
-    operands: tuple = ()
+    operands: tuple[Operand, ...] = ()
     type: Optional[Type] = None
     word: str = ""
-    region: Region = 0
+    region: int = 0
 
 
 class Read(NamedTuple):
@@ -64,13 +64,13 @@ class Nothing(NamedTuple):
 class Jump(NamedTuple):
     """To one of the blocks; the operand, if there is one, decides."""
 
-    blocks: tuple
+    blocks: tuple[int, ...]
     operand: Optional[Operand] = None
 
 
 class Drop(NamedTuple):
     place: Place
-    blocks: tuple
+    blocks: tuple[int, ...]
 
 
 class Call(NamedTuple):
@@ -78,7 +78,7 @@ class Call(NamedTuple):
 
     place: Place
     function: Operand
-    operands: tuple
+    operands: tuple[Operand, ...]
     returns: Optional[int]
     unwinds: Optional[int]
 
@@ -87,3 +87,8 @@ class Leave(NamedTuple):
     """`return`, `resume`, or an end without a way out."""
 
     is_return: bool
+
+
+Statement = Union[Assign, Read, Storage, Nothing]
+Terminator = Union[Jump, Drop, Call, Leave]
+Line = Union[Statement, Terminator]

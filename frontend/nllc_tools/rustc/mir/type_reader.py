@@ -2,10 +2,10 @@
 
 import re
 from functools import lru_cache
-from typing import Iterator, Union
+from typing import Iterator, Optional
 
 from nllc_tools.rustc.mir.scanner import Scanner
-from nllc_tools.rustc.mir.types import PLAIN, STATIC, UNIT, Region, Type
+from nllc_tools.rustc.mir.types import PLAIN, STATIC, UNIT, Part, Region, Type
 
 REGION = re.compile(r"'\?(\d+)|'(\^[\d_]+)(?:\.Named)?|'\{erased\}|'([A-Za-z_]\w*)(?:/#\d+)?")
 DEFINITION = re.compile(r"\(DefId\([^()]*\)\)")
@@ -63,7 +63,7 @@ class Reader(Scanner):
             return self.opaque()
         return self.path()
 
-    def region(self) -> Union[Region, None]:
+    def region(self) -> Optional[Region]:
         """The region that stands here, if one does."""
         found = self.match(REGION) if self.sign() == "'" else None
         if not found:
@@ -72,8 +72,8 @@ class Reader(Scanner):
             return int(found[1])
         if found[2]:
             self.takes("(DefId")     # what `simplified` left of it
-            return found[2]
-        return STATIC if found[3] == "static" else found[0]
+            return str(found[2])
+        return STATIC if found[3] == "static" else str(found[0])
 
     def reference(self) -> Type:
         self.must("&")
@@ -134,7 +134,9 @@ class Reader(Scanner):
     def object(self) -> Type:
         """`dyn A<..> + B + '?5`."""
         self.takes("dyn* ") or self.takes("dyn ")
-        names, parts, region = [], [], None
+        names: list[str] = []
+        parts: list[Part] = []
+        region: Region = STATIC
         while True:
             self.match(BINDER)
             found = self.region()
@@ -146,7 +148,7 @@ class Reader(Scanner):
                 parts += bound.parts
             if not self.takes(" + "):
                 break
-        return Type("dyn", " + ".join(names), (*parts, STATIC if region is None else region))
+        return Type("dyn", " + ".join(names), (*parts, region))
 
     def parameter(self) -> Type:
         """`impl Trait` of an argument: a type parameter like others."""
@@ -192,7 +194,7 @@ class Reader(Scanner):
     def path(self) -> Type:
         """`a::b<'?1, T>::c`, `<T as Trait>::Name<..>`; the parts are all arguments in order."""
         names: list[str] = []
-        parts: list = []
+        parts: list[Part] = []
         form = "adt"
         if self.sign() == "<" and not self.text.startswith("<impl at ", self.at):
             form = "alias"
@@ -209,7 +211,7 @@ class Reader(Scanner):
             form = "plain"
         return Type(form, "::".join(names), tuple(parts))
 
-    def qualified(self, names: list[str], parts: list) -> None:
+    def qualified(self, names: list[str], parts: list[Part]) -> None:
         """`<T as Trait<..>>`."""
         self.must("<")
         parts.append(self.type())
@@ -219,7 +221,7 @@ class Reader(Scanner):
             parts.extend(trait.parts)
         self.must(">")
 
-    def segment(self, names: list[str], parts: list) -> None:
+    def segment(self, names: list[str], parts: list[Part]) -> None:
         """A name, or arguments, or what stands for a name."""
         if self.text.startswith("<impl ", self.at):
             self.must("<impl ")
@@ -261,7 +263,7 @@ class Reader(Scanner):
         self.at = begin
         return "upvar_tys=" not in inside
 
-    def arguments(self, closer: str) -> Iterator:
+    def arguments(self, closer: str) -> Iterator[Part]:
         """Regions and types between brackets; `Name = ` before a type, and constants, are skipped."""
         while not self.takes(closer):
             region = self.region()

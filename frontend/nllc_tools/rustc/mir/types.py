@@ -4,9 +4,12 @@ It is a tree whose leaves are regions, types without parts, and nothing else: wh
 skipped. A region is a number, `'?5` is 5; one that a `for<..>` binds is a word, `'^0` is `^0`.
 """
 
+from __future__ import annotations
+
 from typing import Callable, NamedTuple, Union
 
 Region = Union[int, str]
+Part = Union[Region, "Type"]
 
 STATIC = 0
 
@@ -21,15 +24,15 @@ class Type(NamedTuple):
 
     form: str
     name: str = ""
-    parts: tuple = ()
+    parts: tuple[Part, ...] = ()
 
-    def regions(self) -> list[Region]:
+    def regions(self) -> list[int]:
         """All regions in it, in order, as often as they stand there; those that it binds left out."""
-        found: list[Region] = []
+        found: list[int] = []
         self.add_regions(found)
         return found
 
-    def add_regions(self, found: list[Region]) -> None:
+    def add_regions(self, found: list[int]) -> None:
         for part in self.parts:
             if isinstance(part, Type):
                 part.add_regions(found)
@@ -46,24 +49,24 @@ class Type(NamedTuple):
                 found.add(part)
         return found
 
-    def shape(self) -> "Type":
+    def shape(self) -> Type:
         """The type with its regions forgotten."""
         return self.with_regions(lambda region: STATIC if isinstance(region, int) else region)
 
-    def has_shape_of(self, other: "Type") -> bool:
+    def has_shape_of(self, other: Type) -> bool:
         """Whether the two differ in regions alone, those that they bind too."""
         return (self.form, self.name, len(self.parts)) == (other.form, other.name, len(other.parts)) and all(
-            isinstance(a, Type) == isinstance(b, Type) and (not isinstance(a, Type) or a.has_shape_of(b))
+            a.has_shape_of(b) if isinstance(a, Type) and isinstance(b, Type) else isinstance(a, Type) == isinstance(b, Type)
             for a, b in zip(self.parts, other.parts))
 
-    def with_regions(self, new: Callable[[Region], Region]) -> "Type":
+    def with_regions(self, new: Callable[[Region], Region]) -> Type:
         """The type with other regions."""
         if not self.parts:
             return self
         return Type(self.form, self.name, tuple(
             part.with_regions(new) if isinstance(part, Type) else new(part) for part in self.parts))
 
-    def with_list(self, regions: list[Region]) -> "Type":
+    def with_list(self, regions: list[Region]) -> Type:
         """The type with these regions in order; those that it binds stay."""
         left = iter(regions)
         return self.with_regions(lambda region: next(left) if isinstance(region, int) else region)
