@@ -8,7 +8,7 @@ from functools import cache
 OF_CARGO = "cargo nllc"
 
 
-def called(*words):
+def called(*words: str) -> str:
     """The command with these words, as the wrapper was called; one of cargo's goes by its own name."""
     first = () if words[:1] == (OF_CARGO,) else (os.environ.get("NLLC_CALLED", "nllc.sh"),)
     return " ".join((*first, *words))

@@ -6,9 +6,9 @@ LIFETIMES = ("E0521", "E0621")
 NAMELESS = ("lifetime may not live long enough", "captured variable cannot escape `FnMut` closure body")
 
 
-def is_of_lifetimes(code, message):
+def is_of_lifetimes(code: str, message: str) -> bool:
     return code in LIFETIMES or not code and message.startswith(NAMELESS)
 
 
-def is_judged(code, message):
+def is_judged(code: str, message: str) -> bool:
     return code in LOANS or is_of_lifetimes(code, message)

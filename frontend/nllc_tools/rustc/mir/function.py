@@ -11,7 +11,7 @@ from nllc_tools.rustc.mir.body import Body, Reason
 from nllc_tools.rustc.mir.body_reader import read_body
 from nllc_tools.rustc.mir.constants import Known, captures, named_constants, with_types
 from nllc_tools.rustc.mir.statement_reader import read_statement, read_terminator
-from nllc_tools.rustc.mir.statements import Assign, Call, Constant, Drop, Jump, Place, Read, Storage
+from nllc_tools.rustc.mir.statements import Assign, Call, Constant, Drop, Jump, Line, Place, Read, Storage
 from nllc_tools.rustc.mir.type_reader import read_type
 from nllc_tools.rustc.mir.types import STATIC, Type
 from nllc_tools.rustc.tables import Location, Reader as Tables
@@ -30,7 +30,7 @@ class Function:
     name: str
     body: Body
     locals: dict[int, Type]
-    lines: dict[Location, tuple]
+    lines: dict[Location, Line]
     universals: list[int]
     outlives: list[tuple[int, int]]
     drops: dict[int, set[int]]

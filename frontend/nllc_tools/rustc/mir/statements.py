@@ -87,3 +87,6 @@ class Leave(NamedTuple):
     """`return`, `resume`, or an end without a way out."""
 
     is_return: bool
+
+
+Line = Union[Assign, Read, Storage, Nothing, Jump, Drop, Call, Leave]

@@ -4,7 +4,7 @@ It is a tree whose leaves are regions, types without parts, and nothing else: wh
 skipped. A region is a number, `'?5` is 5; one that a `for<..>` binds is a word, `'^0` is `^0`.
 """
 
-from typing import Callable, NamedTuple, Union
+from typing import Callable, NamedTuple, Sequence, Union
 
 Region = Union[int, str]
 
@@ -23,13 +23,13 @@ class Type(NamedTuple):
     name: str = ""
     parts: tuple = ()
 
-    def regions(self) -> list[Region]:
+    def regions(self) -> list[int]:
         """All regions in it, in order, as often as they stand there; those that it binds left out."""
-        found: list[Region] = []
+        found: list[int] = []
         self.add_regions(found)
         return found
 
-    def add_regions(self, found: list[Region]) -> None:
+    def add_regions(self, found: list[int]) -> None:
         for part in self.parts:
             if isinstance(part, Type):
                 part.add_regions(found)
@@ -63,7 +63,7 @@ class Type(NamedTuple):
         return Type(self.form, self.name, tuple(
             part.with_regions(new) if isinstance(part, Type) else new(part) for part in self.parts))
 
-    def with_list(self, regions: list[Region]) -> "Type":
+    def with_list(self, regions: Sequence[Region]) -> "Type":
         """The type with these regions in order; those that it binds stay."""
         left = iter(regions)
         return self.with_regions(lambda region: next(left) if isinstance(region, int) else region)
