@@ -10,15 +10,15 @@ from collections import defaultdict
 from dataclasses import dataclass, field
 
 from nllc_tools.commands.rules import numbers_of
-from nllc_tools.model.constraint import ALL
+from nllc_tools.model.facts import ALL, Facts
 from nllc_tools.model.constraints import constraints as asked_of, live_points, named
 from nllc_tools.model.points import Points, number_points
-from nllc_tools.model.problem import Problem as FactsProblem, Remark
+from nllc_tools.model.problem import Problem as FactsProblem
+from nllc_tools.model.remarks import Remark
 from nllc_tools.model.regions import Regions
 from nllc_tools.rustc.mir.body_reader import read_body
 from nllc_tools.rustc.mir.function import Function, read_function
 from nllc_tools.rustc.tables import Tables, read_tables
-from nllc_tools.texts.facts.problem import Facts
 from nllc_tools.texts.facts.writer import facts_text
 
 STATIC = 0

@@ -13,7 +13,8 @@ from nllc_tools.base.files import free_path, write_whole
 from nllc_tools.base.refusal import Refusal
 from nllc_tools.commands.page import main as page
 from nllc_tools.model.liveness import bases
-from nllc_tools.model.problem import Problem, Remark
+from nllc_tools.model.problem import Problem
+from nllc_tools.model.remarks import Remark
 from nllc_tools.model.regions import Regions, name_regions
 from nllc_tools.rustc.dumps import Dump, file_name, type_name
 from nllc_tools.rustc.functions import Found, choose

@@ -12,7 +12,7 @@ from nllc_tools.judge.as_rustc import blame, causes, lifetimes, loan_faults
 from nllc_tools.judge.content import Content, Fault
 from nllc_tools.judge.findings import findings, loan_findings
 from nllc_tools.model import chains
-from nllc_tools.model.constraint import Constraint
+from nllc_tools.model.facts import Constraint
 from nllc_tools.rustc.compiler import crate_name
 from nllc_tools.rustc.dumps import Dump
 from nllc_tools.rustc.error_owners import own_errors
@@ -24,7 +24,7 @@ from nllc_tools.rustc.mir.debug_places import Place, overlap, read_place
 from nllc_tools.rustc.mir.destructors import destroyed_by, path_to
 from nllc_tools.rustc.mir.desugarings import Desugarings, declarations
 from nllc_tools.rustc.mir.spans import Span
-from nllc_tools.texts.facts import loan_remarks
+from nllc_tools.model.said import Place as SourcePlace
 from nllc_tools.texts.snippets import snippet, whole_line
 from nllc_tools.texts.source import Source
 from nllc_tools.views.terminal import finding_lines
@@ -351,9 +351,9 @@ class Lifetimes(unittest.TestCase):
                          "declare it: this call requires it")
 
     def test_names_in_a_line(self):
-        place = loan_remarks.Place(1, 8, 1, 10)
+        place = SourcePlace(1, 8, 1, 10)
         self.assertEqual(lifetimes.named_line(Source("a.rs", 1, ["f(x: A<'_>, y: A)"]), 1,
-                                              [(place, "'1"), (loan_remarks.Place(1, 16, 1, 17), "'2")]), "f(x: A<'1>, y: A<'2>)")
+                                              [(place, "'1"), (SourcePlace(1, 16, 1, 17), "'2")]), "f(x: A<'1>, y: A<'2>)")
 
 
 class Desugared(unittest.TestCase):
@@ -387,7 +387,7 @@ class AnyLocale(unittest.TestCase):
 
 class Snippets(unittest.TestCase):
     def place(self, *numbers):
-        return loan_remarks.Place(*numbers)
+        return SourcePlace(*numbers)
 
     def test_words_of_a_place(self):
         self.assertEqual(snippet(SOURCE, self.place(1, 9, 1, 11)), "&a")

@@ -18,7 +18,7 @@ from nllc_tools.judge.answer import explained
 from nllc_tools.judge.chain_sentences import step_brief, step_sentence
 from nllc_tools.judge.content import Content
 from nllc_tools.model.chains import chain, check
-from nllc_tools.model.constraint import ALL
+from nllc_tools.model.facts import ALL
 from nllc_tools.model.faults import faults
 from nllc_tools.texts.facts import widening
 from nllc_tools.texts.facts.reader import read_facts

@@ -21,7 +21,7 @@ from nllc_tools.judge.content import Content, Fault  # noqa: E402
 from nllc_tools.model.chains import chain  # noqa: E402
 from nllc_tools.model.faults import faults  # noqa: E402
 from nllc_tools.texts.facts.reader import read_facts  # noqa: E402
-from nllc_tools.texts.facts.values import Values  # noqa: E402
+from nllc_tools.model.values import Values  # noqa: E402
 from nllc_tools.texts.source import Source  # noqa: E402
 from nllc_tools.views.html.index import index_page  # noqa: E402
 from nllc_tools.views.html.index_rows import Row  # noqa: E402

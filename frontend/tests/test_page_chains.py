@@ -7,7 +7,7 @@ import unittest
 from page_support import EXAMPLES, SAMPLES, file_bytes, random_text, reference, solved
 
 from nllc_tools.model import chains
-from nllc_tools.model.constraint import ALL
+from nllc_tools.model.facts import ALL
 from nllc_tools.model.faults import faults
 
 

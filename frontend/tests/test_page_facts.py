@@ -6,7 +6,7 @@ from page_support import facts_of, file_bytes, random_text, reference, solved, t
 
 from nllc_tools.base.refusal import Refusal
 from nllc_tools.texts.facts.reader import read_facts
-from nllc_tools.texts.facts.remark_reader import Remark
+from nllc_tools.model.remarks import Remark
 from nllc_tools.texts.facts.values import read_values
 
 

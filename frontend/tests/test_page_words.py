@@ -8,7 +8,7 @@ from nllc_tools.base import grouping, sentences
 from nllc_tools.base.sentences import Code, plain
 from nllc_tools.judge import asking_statements, chain_sentences
 from nllc_tools.model import chains
-from nllc_tools.model.constraint import Constraint
+from nllc_tools.model.facts import Constraint
 from nllc_tools.texts import source
 
 

@@ -7,6 +7,7 @@ Value = TypeVar("Value")
 
 
 def grouped(pairs: Iterable[tuple[Key, Value]]) -> dict[Key, list[Value]]:
+    """For each thing that stands first the things that stand beside it."""
     table: dict[Key, list[Value]] = {}
     for key, value in pairs:
         table.setdefault(key, []).append(value)

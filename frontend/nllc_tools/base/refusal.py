@@ -1,7 +1,5 @@
 """What the tool says where it can't go on."""
 
-__all__ = ["Refusal"]
-
 
 class Refusal(Exception):
     """One line for a person, and the status with which the program ends."""

@@ -9,17 +9,17 @@ import re
 from typing import Callable, Union
 
 from nllc_tools.commands.texts import problem_of
-from nllc_tools.model.constraint import ALL
+from nllc_tools.model.facts import ALL, Facts
 from nllc_tools.model.constraints import constraints, named
 from nllc_tools.model.points import number_points
-from nllc_tools.model.problem import Problem, Remark
+from nllc_tools.model.problem import Problem
+from nllc_tools.model.remarks import Remark
 from nllc_tools.model.regions import Regions
 from nllc_tools.rustc.dumps import Dump
 from nllc_tools.rustc.mir.body_reader import read_body
 from nllc_tools.rustc.mir.function import Function, read_function
 from nllc_tools.rustc.mir.types import STATIC
 from nllc_tools.rustc.tables import read_tables
-from nllc_tools.texts.facts.problem import Facts
 from nllc_tools.texts.mir.functions import Made
 from nllc_tools.texts.mir.text import names_of
 

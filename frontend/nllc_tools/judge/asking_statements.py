@@ -1,7 +1,7 @@
 """The statements that may ask for a constraint, and their lines."""
 
 from nllc_tools.base.sentences import Code
-from nllc_tools.model.constraint import ALL
+from nllc_tools.model.facts import ALL
 
 MOST_ORIGINS = 3    # of more statements none is named
 

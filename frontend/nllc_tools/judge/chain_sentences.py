@@ -7,7 +7,7 @@ outside is never read as markup.
 from nllc_tools.base.grouping import spans
 from nllc_tools.base.sentences import joined
 from nllc_tools.judge.asking_statements import MOST_ORIGINS, is_everywhere, origins, statement
-from nllc_tools.model.constraint import ALL
+from nllc_tools.model.facts import ALL
 from nllc_tools.model.region_names import end, tick
 
 

@@ -9,7 +9,7 @@ from nllc_tools.judge.as_rustc import blame, loan_faults
 from nllc_tools.judge.differences import differences, handed_out, refused
 from nllc_tools.judge.findings import finding, loan_findings
 from nllc_tools.judge.findings.lifetime_findings import names_of
-from nllc_tools.texts.facts.loan_remarks import Gone, Place
+from nllc_tools.model.said import Gone, Place
 
 
 class Label(NamedTuple):

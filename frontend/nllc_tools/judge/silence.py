@@ -10,7 +10,7 @@ from nllc_tools.base import nllc
 from nllc_tools.base.grouping import grouped
 from nllc_tools.base.sentences import visible
 from nllc_tools.judge.names import function_words
-from nllc_tools.texts.facts.remark_reader import Remarks
+from nllc_tools.texts.facts.remark_reader import RemarkReader
 
 TELLING = re.compile(rb"^# (?:gone|needs|rustc) ", re.MULTILINE)
 AGAINST = re.compile(r"^# against (\d+), .*: ([\d ]+)$", re.MULTILINE)
@@ -69,11 +69,12 @@ def is_reached(following, at, points, inside, killed):
 
 def silent(text):
     """What is told of such a text."""
-    remarks = Remarks()
+    reader = RemarkReader()
     for line in HEAD.match(text)[0].decode().splitlines():
-        remarks.read(line)
+        reader.read(line)
     if CLOSURE in text:
         for line in REGION.findall(text):
-            remarks.read(line.decode())
+            reader.read(line.decode())
+    remarks = reader.remarks
     return {"name": visible(function_words(SimpleNamespace(remarks=remarks))), "source": visible(remarks.source), "faults": 0,
             "loans": 0, "moves": 0, "asked_to_explain": False, **{kind: [] for kind in NOTHING}}

@@ -7,11 +7,12 @@ moved out of, and such a drop does nothing. (RFC 2094, "Liveness"; the rules are
 """
 
 from collections import defaultdict
-from typing import Callable, Iterable, Iterator
+from typing import Callable, Iterable, Iterator, TypeVar
 
 from nllc_tools.base.walks import reached
 from nllc_tools.rustc.tables import Location, Spot, Tables
 
+Thing = TypeVar("Thing")
 Neighbours = dict[Spot, list[Spot]]
 
 
@@ -58,9 +59,9 @@ def neighbours(tables: Tables) -> tuple[Neighbours, Neighbours]:
     return before, after
 
 
-def table_of(pairs: Iterable[tuple[int, object]]) -> dict[int, list]:
-    """For each number that stands first the things that stand beside it."""
-    table: dict[int, list] = defaultdict(list)
+def table_of(pairs: Iterable[tuple[int, Thing]]) -> dict[int, list[Thing]]:
+    """For each number that stands first the things that stand beside it; of another one there are none."""
+    table: dict[int, list[Thing]] = defaultdict(list)
     for first, second in pairs:
         table[first].append(second)
     return table

@@ -5,6 +5,7 @@ from dataclasses import dataclass, field
 from functools import cached_property
 from typing import NamedTuple, Optional
 
+from nllc_tools.base.refusal import Refusal
 from nllc_tools.rustc.dumps import Dump
 from nllc_tools.rustc.mir.accesses import WRITES, Access, accesses
 from nllc_tools.rustc.mir.body import Body
@@ -88,19 +89,22 @@ class Loans:
         text, span, _ = self.body.statements[location]
         target, end = read_place(text) or (None, 0)
         way = BORROW.search(text, end)
-        kind = (way[1] or "shared").split()[0]
-        place, _ = read_place(text, way.end())
+        borrowed = read_place(text, way.end()) if way else None
+        if way is None or borrowed is None:
+            raise Refusal(f"{self.body.path}: rustc's facts have a borrow where its MIR dump has none; "
+                          "rustc 1.95 is known to work")
+        kind, (place, _) = (way[1] or "shared").split()[0], borrowed
         variable = target.local if target and not target.steps else None
-        capture = capture_of(dump, self.body, variable, self.uses.get(variable, ()))
+        capture = None if variable is None else capture_of(dump, self.body, variable, self.uses.get(variable, ()))
         root = self.body.locals.get(place.local)
-        is_of_closure = capture is not None and not capture.is_async
-        home = capture.use if is_of_closure else root.span if root and not root.name else None
+        of_closure = capture if capture is not None and not capture.is_async else None
+        home = of_closure.use if of_closure else root.span if root and not root.name else None
         path = path_to(text, way.end(), lambda number: self.body.locals[number].type)
         is_unique = capture is not None and kind == "mut" and root is not None \
             and (not root.is_mutable or capture.is_behind and path.type.startswith("&mut ")) \
             and not ENVIRONMENT.search(root.type)
         return Loan(region, location, kind, place, variable, capture.home if capture else span, path, home,
-                    is_of_closure, is_unique)
+                    of_closure is not None, is_unique)
 
     @cached_property
     def against(self) -> list[Against]:
@@ -134,18 +138,17 @@ class Loans:
         rustc's tables have that too, but the second phase alone goes against such a loan.
         """
         first = self.issued.get(location)
-        if first is None or first.kind != "mut" or self.loans[number].kind == "mut":
+        if first is None or first.kind != "mut" or first.target is None or self.loans[number].kind == "mut":
             return False
         uses = self.uses.get(first.target, set())
-        is_temporary = first.target is not None and not self.body.locals[first.target].name
-        return is_temporary and len(uses) == 1 and all((use, number) in self.invalid
+        return not self.body.locals[first.target].name and len(uses) == 1 and all((use, number) in self.invalid
                                                        for use in uses)
 
     def is_replaced(self, location: Location) -> bool:
         """Whether what is dropped there gets a new value at once: that is one assignment."""
         dropped = DROP.match(self.body.statements[location].text)
         following = self.body.statements.get(Location(int(dropped[2]), 0)) if dropped else None
-        return following is not None and following.text.startswith(f"{dropped[1]} = ")
+        return dropped is not None and following is not None and following.text.startswith(f"{dropped[1]} = ")
 
     def way(self, location: Location, loan: Loan) -> Optional[Way]:
         """How the statement goes against the loan, if it does.

@@ -56,7 +56,7 @@ class Moved:
                 yield error, found
 
     def of_one(self, error: Error, taken: Container[Location] = ()) -> Optional[Gone]:
-        table = ((path, spot) for path in self.assigned for spot in self.assigned[path]) \
+        table = [(path, spot) for path in self.assigned for spot in self.assigned[path]] \
             if error.code == "E0384" else self.accessed
         rows = sorted(table, key=lambda row: row[1])
         there = [row for row in rows if self.begins_at(row[1].location, error)]
@@ -85,14 +85,15 @@ class Moved:
         if span is None or (span.file, span.first) > (error.places[0][0], error.line):
             return False
         made = MADE.search(text) or self.made_of(text)
-        begins = [span, home_of(made[1], span)] if made else [span]
-        return any((one.file, one.first, one.column) == (error.places[0][0], error.line, error.column) for one in begins)
+        begins = (span, home_of(made[1], span)) if made else (span,)
+        return any(one is not None and (one.file, one.first, one.column) == (error.places[0][0], error.line, error.column)
+                   for one in begins)
 
-    def made_of(self, text: str):
+    def made_of(self, text: str) -> Optional[re.Match[str]]:
         """The closure for which a statement borrows, if it does."""
         target = text.split(" = &")[0] if " = &" in text else None
-        return target and next((found for said in self.body.statements.values()
-                                if (found := MADE.search(said.text)) and f"move {target}" in said.text), None)
+        made = (MADE.search(said.text) for said in self.body.statements.values() if target and f"move {target}" in said.text)
+        return next(filter(None, made), None)
 
     def gone_at(self, path: int, spot: Spot) -> Optional[Gone]:
         """The moves, or the missing value, by which an access to a path is wrong."""
@@ -113,8 +114,10 @@ class Moved:
             return None
         return self.gone(path, spot, "E0384", earlier, came_by, earlier)
 
-    def gone(self, path: int, spot: Spot, code: str, since: list[Spot], came_by: dict, nearest: list[Spot]) -> Gone:
-        walk, at = [], nearest[0]
+    def gone(self, path: int, spot: Spot, code: str, since: list[Spot], came_by: dict[Spot, Optional[Spot]],
+             nearest: list[Spot]) -> Gone:
+        walk: list[Location] = []
+        at: Optional[Spot] = nearest[0]
         while at is not None:
             walk.append(at.location)
             at = came_by[at]

@@ -1,16 +1,9 @@
 """The problem of a function, with what is said of its points and regions; what `nllc` would refuse for its size."""
 
 from dataclasses import dataclass, field
-from typing import NamedTuple, Optional
 
 from nllc_tools.base.refusal import Refusal
-
-
-class Remark(NamedTuple):
-    """What is said of a point or a region: the line of the source, where it is known, and words."""
-
-    line: Optional[int]
-    text: str
+from nllc_tools.model.remarks import Remark
 
 
 MOST_POINTS = 1_048_576

@@ -3,8 +3,8 @@
 from nllc_tools.base.walks import reached
 from nllc_tools.judge import asking_statements
 from nllc_tools.model.blame import blamed
-from nllc_tools.model.constraint import ALL
-from nllc_tools.texts.facts.loan_remarks import Blamed
+from nllc_tools.model.facts import ALL
+from nllc_tools.model.said import Blamed
 
 SILENT = 6      # the rank of a step of which the text has no reason
 

@@ -7,8 +7,8 @@ from typing import NamedTuple, Optional
 
 from nllc_tools.base.walks import backwards
 from nllc_tools.model import chains
-from nllc_tools.model.constraint import ALL
-from nllc_tools.texts.facts.loan_remarks import Place
+from nllc_tools.model.facts import ALL
+from nllc_tools.model.said import Place
 
 STATIC = 0
 NUMBERED = re.compile(r"r\d+|_+")      # how regions are called that have no name

@@ -3,7 +3,7 @@
 import re
 
 from nllc_tools.judge.as_rustc.loan_faults import LoanFault
-from nllc_tools.texts.facts.loan_remarks import Gone
+from nllc_tools.model.said import Gone
 
 PAIR = re.compile(r"`('\w+)` must outlive `('\w+)`")
 RETURNED = re.compile(r"return data with lifetime `('\w+)` but it is returning data with lifetime `('\w+)`")

@@ -10,7 +10,7 @@ from nllc_tools.base.grouping import grouped
 from nllc_tools.base.walks import reached
 from nllc_tools.judge.as_rustc import blame, macro_places
 from nllc_tools.judge.as_rustc.causes import Cause, why
-from nllc_tools.texts.facts.loan_remarks import Against, Loan, Place
+from nllc_tools.model.said import Against, Loan, Place
 
 ENDING = ("ends", "drops", "leaves", "destroys")
 BORROWING = ("mut", "unique", "late", "shared")

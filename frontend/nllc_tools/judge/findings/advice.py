@@ -3,7 +3,7 @@
 from nllc_tools.base.sentences import Code
 from nllc_tools.judge.as_rustc import loan_faults
 from nllc_tools.model.region_names import tick
-from nllc_tools.texts.facts.loan_remarks import Gone
+from nllc_tools.model.said import Gone
 
 # Where a later use is what keeps the loan live.
 IN_THE_WAY = "or clone what is needed; or keep an index or a key in place of the reference"

@@ -5,7 +5,7 @@ from typing import NamedTuple, Optional
 from nllc_tools.base import sentences
 from nllc_tools.base.sentences import Code
 from nllc_tools.judge.findings import advice
-from nllc_tools.texts.facts.loan_remarks import Place, Within
+from nllc_tools.model.said import Place, Within
 from nllc_tools.texts.snippets import snippet
 
 # What a constraint of a category does with what stands at its place.

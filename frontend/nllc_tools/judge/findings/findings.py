@@ -1,14 +1,11 @@
-"""Faults in two lines each, as a user of Rust thinks: from the cause to the end, by lines of the source.
-
-A telling is a place, and two sentences; a sentence is a list of strings, as in `words`.
-"""
+"""All findings of a function: faults, loan errors, and errors of moves and assignments."""
 
 from nllc_tools.judge.as_rustc import move_sentences
 from nllc_tools.judge.findings.finding import Telling, notes
 from nllc_tools.judge.findings.lifetime_findings import of_faults
 from nllc_tools.judge.findings.loan_findings import of_loan
 from nllc_tools.model import region_names
-from nllc_tools.texts.facts.loan_remarks import Place
+from nllc_tools.model.said import Place
 
 
 def of_need(content, pair):

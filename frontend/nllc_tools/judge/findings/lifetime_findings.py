@@ -7,7 +7,7 @@ from nllc_tools.judge.as_rustc.counterparts import are_same, counterpart, pair_o
 from nllc_tools.judge.as_rustc.lifetimes import Lifetimes
 from nllc_tools.judge.findings.finding import HELP, Telling, notes, within
 from nllc_tools.judge.findings.stops import stops_of
-from nllc_tools.texts.facts.loan_remarks import Place
+from nllc_tools.model.said import Place
 
 # What asks for a constraint of a category at its place.
 ASKERS = {"return": "the value returned here", "yield": "the value yielded here", "constant": "this constant",

@@ -6,7 +6,7 @@ skipped. A region is a number, `'?5` is 5; one that a `for<..>` binds is a word,
 
 from __future__ import annotations
 
-from typing import Callable, NamedTuple, Union
+from typing import Callable, NamedTuple, Sequence, Union
 
 Region = Union[int, str]
 Part = Union[Region, "Type"]
@@ -66,7 +66,7 @@ class Type(NamedTuple):
         return Type(self.form, self.name, tuple(
             part.with_regions(new) if isinstance(part, Type) else new(part) for part in self.parts))
 
-    def with_list(self, regions: list[Region]) -> Type:
+    def with_list(self, regions: Sequence[Region]) -> Type:
         """The type with these regions in order; those that it binds stay."""
         left = iter(regions)
         return self.with_regions(lambda region: next(left) if isinstance(region, int) else region)

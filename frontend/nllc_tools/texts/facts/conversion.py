@@ -5,7 +5,8 @@ from typing import Iterable
 
 from nllc_tools.model.constraints import constraints, live_points, named
 from nllc_tools.model.points import number_points
-from nllc_tools.model.problem import Named, Problem, Remark
+from nllc_tools.model.problem import Named, Problem
+from nllc_tools.model.remarks import Remark
 from nllc_tools.model.regions import STATIC, Regions
 from nllc_tools.rustc.dumps import Dump
 from nllc_tools.rustc.errors import Error

@@ -1,6 +1,6 @@
 """Says of each region of a facts text where it comes from."""
 
-from nllc_tools.model.problem import Remark
+from nllc_tools.model.remarks import Remark
 from nllc_tools.model.regions import STATIC, Regions
 from nllc_tools.rustc.tables import Tables
 from nllc_tools.texts.facts.wording import Wording, shortened

@@ -103,7 +103,7 @@ class Beside:
 
     def reason_lines(self) -> Iterator[str]:
         """Why each constraint is asked, at the point of its statement or everywhere."""
-        said = {}
+        said: dict[str, None] = {}
         inside = Inside(self.body.reasons, self.regions)
         for reason in self.body.reasons:
             sup, sub = self.name(reason.sup), self.name(reason.sub)
@@ -166,7 +166,8 @@ class Beside:
         for location, statement in sorted(self.body.statements.items()):
             span = statement.span
             function = self.body.function_span(location) if span and span.first != span.last else None
-            if function and location in self.number and self.place(function) != "elsewhere" and function.first != span.first:
+            if function and span and location in self.number and self.place(function) != "elsewhere" \
+                    and function.first != span.first:
                 yield f"called {self.number[location]}, {self.place(function)}"
 
     def received_lines(self, own: Loans) -> Iterator[str]:
@@ -179,7 +180,8 @@ class Beside:
             if location in self.number and span and function.first != span.first and self.place(function) != "elsewhere" \
                     and self.desugarings.before(function) == ".":
                 made = [number for number, loan in sorted(own.loans.items())
-                        if loan.location != location and is_overlapping(span, self.body.locals.get(loan.target))]
+                        if loan.location != location and loan.target is not None
+                        and is_overlapping(span, self.body.locals.get(loan.target))]
             if made:
                 yield f"called {self.number[location]} by {' '.join(map(str, made))}, {self.place(function)}"
 
@@ -189,7 +191,7 @@ class Beside:
         for location, variable, use in captures(self.dump, self.body):
             begin = self.body.statements[location].span
             if use and begin and location in self.number and self.place(use) != "elsewhere" and use.first != begin.first:
-                names = {self.name(region) for region in regions.get(variable, ())} - {None}
+                names = {name for region in regions.get(variable, ()) if (name := self.name(region))}
                 yield from (f"captured {self.number[location]} {name}, {self.place(use)}" for name in sorted(names))
 
     def need_lines(self) -> Iterator[str]:

@@ -1,33 +1,16 @@
 """Reads the report of `nllc values` (docs/FORMATS.md, "The report")."""
 
 import re
+from typing import Sequence
 
 from nllc_tools.base.refusal import Refusal
+from nllc_tools.model.facts import Facts
+from nllc_tools.model.values import Values
 
 LINE = re.compile(r"'([A-Za-z0-9_]+):((?: [0-9]+| bb[0-9]+/[0-9]+| end\('[A-Za-z0-9_]+\))*)")
 
 
-class Values:
-    """The value of each region, as the report gives it."""
-
-    def __init__(self, rows):
-        self.rows = rows
-        self.sets = {}
-
-    def elements(self, region):
-        """The elements of the region, ascending."""
-        return self.rows[region]
-
-    def set_of(self, region):
-        if region not in self.sets:
-            self.sets[region] = frozenset(self.rows[region])
-        return self.sets[region]
-
-    def has(self, region, element):
-        return element in self.set_of(region)
-
-
-def read_values(report, facts, source):
+def read_values(report: str, facts: Facts, source: str) -> Values:
     """The values that a report gives, where it is one of these facts; `source` names it."""
     ends = {f"end('{name})": facts.end_of(number)
             for number, name in enumerate(facts.names[:facts.universals])}
@@ -42,17 +25,17 @@ def read_values(report, facts, source):
         if number > len(facts.names) or found[1] != facts.names[number - 1]:
             raise foreign(source)
         rows.append([elements.get(word, -1) for word in found[2].split()])
-    if len(rows) != len(facts.names) or not all(fits(facts, *row) for row in enumerate(rows)):
+    if len(rows) != len(facts.names) or not all(fits(facts, region, row) for region, row in enumerate(rows)):
         raise foreign(source)
     return Values(rows)
 
 
-def foreign(source):
+def foreign(source: str) -> Refusal:
     return Refusal(f"{source} isn't the report of this facts text; `nllc values FACTS > FILE` "
                    "writes it anew")
 
 
-def fits(facts, region, row):
+def fits(facts: Facts, region: int, row: Sequence[int]) -> bool:
     """Whether a row may be the value of the region, by its form and its first elements."""
     last = facts.points + facts.universals - 1
     held = set(row)

@@ -5,7 +5,7 @@ import re
 CONSTRAINT = re.compile(rb"[ \t\r]*constraint[ \t\r]*('\w+)[ \t\r]*('\w+)[ \t\r]+\w+[ \t\r]*")
 
 
-def at_all_points(data):
+def at_all_points(data: bytes) -> bytes:
     """The text with each pair of regions of its constraints once, at all points."""
     header, *lines = data.split(b"\n")
     kept, seen = [b"nll-facts 2" if header.split()[:1] == [b"nll-facts"] else header], set()

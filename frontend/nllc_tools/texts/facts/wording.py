@@ -4,7 +4,7 @@ import re
 from collections import Counter
 from typing import Optional
 
-from nllc_tools.model.problem import Remark
+from nllc_tools.model.remarks import Remark
 from nllc_tools.model.regions import Regions
 from nllc_tools.rustc.mir.body import Body
 from nllc_tools.rustc.mir.spans import Span
@@ -86,7 +86,7 @@ class Wording:
 
     def with_variables(self, text: str) -> str:
         """The text with `x` for `_3`, save in strings."""
-        def named(found: re.Match) -> str:
+        def named(found: re.Match[str]) -> str:
             return self.called.get(int(found[1]), found[0])
 
         if '"' not in text:

@@ -4,14 +4,15 @@
     # source: PATH                      # region 'NAME: line L: TEXT
     # way: BY WHAT, where it isn't rustc's facts
 
-`line L: ` is left out where the line isn't known. `beside` makes the other remarks, which stand
+`line L: ` is left out where the line isn't known. `remark_writer` makes the other remarks, which stand
 before the last line.
 """
 
 from typing import Iterator
 
 from nllc_tools.base.refusal import Refusal
-from nllc_tools.model.problem import Problem, Remark
+from nllc_tools.model.problem import Problem
+from nllc_tools.model.remarks import Remark
 
 MOST_BYTES = 67_108_864
 

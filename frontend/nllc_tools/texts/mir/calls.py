@@ -1,11 +1,12 @@
 """Calls in a MIR text, by the signatures of what is called."""
 
 import re
+from typing import Callable, Union
 
-from nllc_tools.model.definitions import is_opaque
+from nllc_tools.model.types.definitions import is_opaque
 from nllc_tools.rustc.mir.function import Paths
 from nllc_tools.rustc.mir.statements import Call, Operand, Place
-from nllc_tools.rustc.mir.types import PLAIN, STATIC, Type
+from nllc_tools.rustc.mir.types import PLAIN, STATIC, Region, Type
 from nllc_tools.rustc.unsaid import NotSaid
 from nllc_tools.texts.mir.parts import Parts
 from nllc_tools.texts.mir.text import STOP
@@ -32,7 +33,8 @@ class Calls(Parts):
             raise NotSaid("a call of what has no signature", type.name)
         self.signed(line, paths, signature, operands, word, exits)
 
-    def signed(self, line: Call, paths: Paths, signature: Type, operands: list, word: str, exits: tuple) -> None:
+    def signed(self, line: Call, paths: Paths, signature: Type, operands: list[tuple[Operand, Type]], word: str,
+               exits: tuple[int, ...]) -> None:
         """A call by its signature, made fresh."""
         new: dict[str, int] = {}
         *inputs, output = (instantiate(part, 0, lambda bound: new.get(bound) or self.bound(new, bound))
@@ -52,7 +54,7 @@ class Calls(Parts):
         new[bound] = self.new_region()
         return new[bound]
 
-    def fit(self, signed: Type, own: Type, paths: Paths, where: set, is_input: bool) -> Type:
+    def fit(self, signed: Type, own: Type, paths: Paths, where: set[tuple[int, int]], is_input: bool) -> Type:
         """A type of a signature in the shape of what it meets: a projection there is the type that it stands for."""
         if self.structs.is_int(own):
             return own
@@ -82,11 +84,11 @@ def word_of(name: str) -> str:
     return re.sub(r"\W+", "", name.rpartition("::")[2]) or "call"
 
 
-def instantiate(type: Type, depth: int, new) -> Type:
+def instantiate(type: Type, depth: int, new: Callable[[str], int]) -> Type:
     """The type with new regions for those that the outermost `for<..>` binds."""
     last = len(type.parts) - 1
 
-    def part_of(number_of, part):
+    def part_of(number_of: int, part: Union[Region, Type]) -> Union[Region, Type]:
         inner = depth + (type.form == "fn" or (type.form == "dyn" and number_of < last))
         if isinstance(part, Type):
             return instantiate(part, inner, new)

@@ -7,8 +7,8 @@ from typing import Optional
 
 from nllc_tools.base.refusal import Refusal
 from nllc_tools.base.workers import keep_silent
-from nllc_tools.model.definition_evidence import gather
-from nllc_tools.model.definitions import Definitions, Evidence
+from nllc_tools.model.types.definition_evidence import gather
+from nllc_tools.model.types.definitions import Definitions, Evidence
 from nllc_tools.rustc.dumps import Dump
 from nllc_tools.rustc.mir.function import read_function
 from nllc_tools.rustc.unsaid import NOT_READ, NotSaid

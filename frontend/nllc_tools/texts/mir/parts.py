@@ -1,9 +1,9 @@
 """What the lines of a MIR text are made of: names, places, operands, calls."""
 
-from typing import Iterator, Optional
+from typing import Iterable, Iterator, Optional
 
-from nllc_tools.model.definitions import Definitions, behind, is_box
-from nllc_tools.model.structs import DISCRIMINANT, Field, Structs, fields_of, step_of
+from nllc_tools.model.types.definitions import Definitions, behind, is_box
+from nllc_tools.model.types.structs import DISCRIMINANT, Field, Structs, fields_of, step_of
 from nllc_tools.rustc.mir.function import Function, places_of
 from nllc_tools.rustc.mir.statements import Assign, Operand, Place
 from nllc_tools.rustc.mir.types import PLAIN, STATIC, Region, Type
@@ -68,7 +68,8 @@ class Parts:
     def walk(self, place: Place) -> Walked:
         type = self.function.locals[place.local]
         text: Optional[str] = f"_{place.local}"
-        prefix, prefix_type, derefs, is_crossed = text, type, [], False
+        prefix, prefix_type, is_crossed = f"_{place.local}", type, False
+        derefs: list[Type] = []
         for step in place.steps:
             following = behind(self.definitions, type, step)
             if following is None:
@@ -97,14 +98,19 @@ class Parts:
 
     # Lines
 
-    def add(self, text: str, exits: Optional[tuple] = None) -> None:
-        self.points.append(Point(text, exits, self.location))
+    def here(self) -> Location:
+        """The location of the line that is translated."""
+        if self.location is None:
+            raise NotSaid("a line that stands nowhere")
+        return self.location
 
-    def call(self, target: Place, word: str, operands: list[tuple[Operand, Type]], result: Type, where=(),
-             exits: tuple = (NEXT,)) -> None:
+    def add(self, text: str, exits: Optional[tuple[int, ...]] = None) -> None:
+        self.points.append(Point(text, exits, self.here()))
+
+    def call(self, target: Place, word: str, operands: list[tuple[Operand, Type]], result: Type,
+             where: Iterable[tuple[int, int]] = (), exits: tuple[int, ...] = (NEXT,)) -> None:
         """A call: each operand with the type that it is to have, and the result's."""
-        where = set(where)
-        listed = []
+        asked_for, listed = set(where), []
         for operand, wanted in operands:
             words, type = self.operand(operand)
             if not self.fits(type, wanted):
@@ -112,28 +118,28 @@ class Parts:
             if words is not None:
                 listed.append(f"{words}: {self.spell(wanted)}")
                 continue
-            where |= self.definitions.wants(type, wanted)
+            asked_for |= self.definitions.wants(type, wanted)
             if isinstance(operand, Place):
                 listed.append(self.prefix(operand))
             else:
-                where |= self.asked_of_constant(type)
+                asked_for |= self.asked_of_constant(type)
         place = self.walk(target)
         if not self.fits(result, place.type):
             raise NotSaid("types that don't fit",
                           f"{word}: {result.form} {result.name}, {place.type.form} {place.type.name}")
         goal, spelled = place.text, self.spell(result)
         if goal is None:
-            where |= self.definitions.wants(result, place.type)
+            asked_for |= self.definitions.wants(result, place.type)
             listed.append(self.prefix(target))
             goal, spelled = f"_{self.spare}", "int"
-        bounds = sorted(f"{self.name(a)}: {self.name(b)}" for a, b in where if a != STATIC and a != b)
+        bounds = sorted(f"{self.name(a)}: {self.name(b)}" for a, b in asked_for if a != STATIC and a != b)
         asked = f" where {', '.join(bounds)}" if bounds else ""
         arrow = " -> %s unwind %s" if len(exits) > 1 else " -> %s"
         self.add(f"{goal} = call {word}({', '.join(listed)}): {spelled}{asked}{arrow}", exits)
 
     def asked_of_constant(self, type: Type) -> set[tuple[int, int]]:
         """What the definition of a constant asks of the regions of its type, of which rustc writes new ones."""
-        own, paths = {*type.regions(), STATIC}, self.function.paths(self.location)
+        own, paths = {*type.regions(), STATIC}, self.function.paths(self.here())
         return {(region, other) for region in own for other in paths.reached(region) if other in own}
 
     def prefix(self, place: Place) -> str:

@@ -5,8 +5,9 @@ The problem of a text, and so all that a page computes with, comes from the prog
 """
 
 import re
+from typing import Optional
 
-from nllc_tools.texts.facts.remark_reader import Remark, Remarks
+from nllc_tools.model.remarks import Remark, Remarks
 
 DECLARED = re.compile(r"(universal|region)\s+'(\w+)$")
 VARIABLE = re.compile(r"let\s+(_\d+)\s*:\s*(.*)$")
@@ -18,18 +19,18 @@ REGION = re.compile(r"'(\w+)")
 class MirText:
     """Reads a text that `nllc` accepts, line by line."""
 
-    def __init__(self, text):
+    def __init__(self, text: str) -> None:
         self.lines = text.split("\n")
-        self.statements = {}    # the name of a point, as `bb1/2`, to its line and words
-        self.regions = {}       # the name of a region to its line and words
-        self.block = None
+        self.statements: dict[str, Remark] = {}    # the name of a point, as `bb1/2`, to its line and words
+        self.regions: dict[str, Remark] = {}       # the name of a region to its line and words
+        self.block: Optional[int] = None
         self.place = 0
         for number, line in enumerate(self.lines, 1):
             words = line.strip(" \t\r")
             if number > 1 and words and not words.startswith("#"):
                 self.read(number, words)
 
-    def read(self, number, words):
+    def read(self, number: int, words: str) -> None:
         if found := BLOCK.match(words):
             self.block, self.place = int(found[1]), 0
         elif found := DECLARED.match(words):
@@ -41,7 +42,7 @@ class MirText:
         elif self.block is not None and words != "end":
             self.add_statement(number, words)
 
-    def add_statement(self, number, words):
+    def add_statement(self, number: int, words: str) -> None:
         self.statements[f"bb{self.block}/{self.place}"] = Remark(
             number, f"{words} (bb{self.block}[{self.place}])")
         self.place += 1
@@ -50,12 +51,12 @@ class MirText:
             what = "the borrow" if borrow and borrow[1] == name else "of the statement"
             self.tell(name, number, f"{what} {words}")
 
-    def tell(self, name, number, words):
+    def tell(self, name: str, number: int, words: str) -> None:
         """The first that is said of a region counts, save that a signature's region is that alone."""
         self.regions.setdefault(name, Remark(number, words))
 
 
-def remarks_of(text, point_names):
+def remarks_of(text: str, point_names: dict[int, str]) -> Remarks:
     """The remarks of a page: a text's own statements at its points, its regions by name."""
     said = MirText(text)
     points = {point: said.statements[name] for point, name in point_names.items()

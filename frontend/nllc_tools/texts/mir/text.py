@@ -15,8 +15,8 @@ class Point(NamedTuple):
     """A line of the text, with a `%s` for each block; what it goes on to, or None for a statement."""
 
     text: str
-    exits: Optional[tuple] = None
-    location: Optional[Location] = None
+    exits: Optional[tuple[int, ...]]
+    location: Location
 
 
 class Walked(NamedTuple):

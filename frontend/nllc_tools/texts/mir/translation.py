@@ -6,11 +6,11 @@ are the same, in the same order.
 
 from typing import Iterator
 
-from nllc_tools.model.definitions import Definitions, has_opaque, is_opaque, made_type
-from nllc_tools.model.structs import DISCRIMINANT
+from nllc_tools.model.types.definitions import Definitions, has_opaque, is_opaque, made_type
+from nllc_tools.model.types.structs import DISCRIMINANT
 from nllc_tools.rustc.mir.function import Function, Paths
-from nllc_tools.rustc.mir.statements import Assign, Call, Constant, Drop, Jump, Leave, Nothing, Place, Read, Storage
-from nllc_tools.rustc.mir.types import PLAIN, STATIC, Type
+from nllc_tools.rustc.mir.statements import Assign, Call, Constant, Drop, Jump, Leave, Line, Nothing, Place, Read, Storage
+from nllc_tools.rustc.mir.types import PLAIN, STATIC, Region, Type
 from nllc_tools.rustc.tables import Location
 from nllc_tools.rustc.unsaid import NotSaid
 from nllc_tools.texts.mir.calls import Calls, word_of
@@ -50,7 +50,7 @@ class Translator(Calls):
         self.location = None
         return self.points
 
-    def line(self, line, location: Location) -> None:
+    def line(self, line: Line, location: Location) -> None:
         if isinstance(line, Storage):
             self.add(f"{'live' if line.is_live else 'dead'} _{line.local}")
         elif isinstance(line, Nothing):
@@ -147,7 +147,7 @@ class Translator(Calls):
         self.approximate("a borrow by a call, with what it rests on")
         self.reborrow(line, borrowed, type, where)
 
-    def reborrow(self, line: Assign, borrowed: Walked, type: Type, where: set) -> None:
+    def reborrow(self, line: Assign, borrowed: Walked, type: Type, where: set[tuple[int, Region]]) -> None:
         target = self.walk(line.place)
         if target.text is None:
             raise NotSaid("a borrow into a place that the profile can't write")
@@ -167,6 +167,8 @@ class Translator(Calls):
 
     def cast(self, line: Assign, paths: Paths) -> None:
         operand, = line.operands
+        if line.type is None:
+            raise NotSaid("a cast to a type that isn't said", line.word)
         _, type = self.operand(operand)
         where = paths.pairs() if line.word in COERCIONS else set()
         self.call(line.place, line.word, [(operand, type)], line.type,
@@ -196,11 +198,12 @@ class Translator(Calls):
         made = Type("tuple", "", types)
         target = self.walk(line.place)
         words = [self.operand(operand)[0] for operand in line.operands]
-        if self.fits(made, target.type) and target.text and None not in words:
+        written = [word for word in words if word is not None]
+        if self.fits(made, target.type) and target.text and len(written) == len(words):
             if self.structs.is_int(made):
                 self.plain(line, target.text)
             else:
-                self.add(f"{target.text} = make {self.spell(made)} ({', '.join(words)})")
+                self.add(f"{target.text} = make {self.spell(made)} ({', '.join(written)})")
             return
         places = [(operand, type) for operand, type in zip(line.operands, types)]
         self.call(line.place, "tuple", places, made)

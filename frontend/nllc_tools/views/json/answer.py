@@ -2,7 +2,7 @@
 
 from nllc_tools.base.grouping import spans
 from nllc_tools.judge.findings import findings, lifetime_findings, loan_findings
-from nllc_tools.model.constraint import ALL
+from nllc_tools.model.facts import ALL
 from nllc_tools.views.terminal import finding_lines
 
 

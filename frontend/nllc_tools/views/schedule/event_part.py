@@ -1,7 +1,7 @@
 """The list of events, and what is said of each one."""
 
 from nllc_tools.base.sentences import Code, joined
-from nllc_tools.model.constraint import ALL
+from nllc_tools.model.facts import ALL
 from nllc_tools.model.region_names import tick
 from nllc_tools.texts.schedule_states import under_way
 from nllc_tools.views.html.escaping import sentence, text

@@ -8,7 +8,7 @@ is the element alone, where the owner knew it of b.
 from typing import NamedTuple
 
 from nllc_tools.base.walks import shortest
-from nllc_tools.model.constraint import ALL
+from nllc_tools.model.facts import ALL
 from nllc_tools.texts.schedule_states import Broken
 
 

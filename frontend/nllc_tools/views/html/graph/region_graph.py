@@ -8,7 +8,7 @@ from typing import NamedTuple
 
 from nllc_tools.base.sentences import visible
 from nllc_tools.judge import asking_statements, chain_sentences
-from nllc_tools.model.constraint import ALL
+from nllc_tools.model.facts import ALL
 from nllc_tools.views.html.escaping import text
 from nllc_tools.views.html.graph import layout
 

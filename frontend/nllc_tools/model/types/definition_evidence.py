@@ -2,9 +2,10 @@
 
 from typing import Iterator
 
-from nllc_tools.model.definitions import BACK, BOTH, FORWARD, Definitions, Evidence, behind, made_type, own_signs, times
+from nllc_tools.model.types.definitions import (BACK, BOTH, FORWARD, Definitions, Evidence, Key, behind, made_type, own_signs,
+                                                times)
 from nllc_tools.rustc.mir.function import Function, Paths, places_of
-from nllc_tools.rustc.mir.statements import Assign, Call, Constant, Place
+from nllc_tools.rustc.mir.statements import Assign, Call, Constant, Line, Place
 from nllc_tools.rustc.mir.types import PLAIN, STATIC, Region, Type
 
 
@@ -35,7 +36,7 @@ class Gatherer:
             own = {number for number, one in enumerate(type.regions()) if one in regions}
             self.evidence.drops.setdefault(type.shape(), set()).update(own)
 
-    def line(self, paths: Paths, line) -> None:
+    def line(self, paths: Paths, line: Line) -> None:
         types = [self.walk(paths, place) for place in places_of(line)]
         if isinstance(line, Assign):
             self.assigned(paths, line, types)
@@ -71,10 +72,10 @@ class Gatherer:
         if line.kind == "use" and others:
             self.meet(paths, others[0], target)
         elif line.kind == "make" and line.type is not None:
-            self.made(paths, line, target)
+            self.made(paths, line, line.type, target)
 
-    def made(self, paths: Paths, line: Assign, target: Type) -> None:
-        made = made_type(line.type, target)
+    def made(self, paths: Paths, line: Assign, written: Type, target: Type) -> None:
+        made = made_type(written, target)
         if made is None:
             return
         type, variant = made
@@ -115,7 +116,7 @@ class Gatherer:
             self.evidence.signs[outer, keys] = self.evidence.signs.get((outer, keys), BOTH) & ways
 
 
-def behind_keys(type: Type, outer: str = "+", keys: tuple = ()) -> Iterator[tuple[Region, str, tuple]]:
+def behind_keys(type: Type, outer: str = "+", keys: tuple[Key, ...] = ()) -> Iterator[tuple[Region, str, tuple[Key, ...]]]:
     """The regions of a type, with the signs and the parameters behind which each stands."""
     for number, (part, sign) in enumerate(zip(type.parts, own_signs(type))):
         own = (outer if sign is None else times(outer, sign), keys if sign is not None else (*keys, (type.name, number)))

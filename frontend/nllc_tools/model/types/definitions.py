@@ -5,8 +5,9 @@ mark are those by which all lines of a crate agree. One line would agree with it
 """
 
 from dataclasses import dataclass, field
-from typing import Iterator, Optional
+from typing import Iterator, Optional, Sequence
 
+from nllc_tools.rustc.mir.statements import Step
 from nllc_tools.rustc.mir.types import PLAIN, STATIC, Type
 
 FORWARD, BACK, BOTH = 1, 2, 3
@@ -24,6 +25,12 @@ def times(outer: str, inner: str) -> str:
     return TIMES.get((outer, inner), "=")
 
 
+def part_of(type: Type, number: int) -> Type:
+    """A part of a type that is a type."""
+    part: Type = type.parts[number]
+    return part
+
+
 def is_box(type: Type) -> bool:
     return type.form == "adt" and type.name.rpartition("::")[2] == "Box"
 
@@ -38,7 +45,7 @@ def has_opaque(type: Type) -> bool:
     return is_opaque(type) or any(isinstance(part, Type) and has_opaque(part) for part in type.parts)
 
 
-def own_signs(type: Type) -> list[Optional[str]]:
+def own_signs(type: Type) -> Sequence[Optional[str]]:
     """The signs of a type's parts; None where it is for a definition to say."""
     count = len(type.parts)
     if type.form == "mut":
@@ -72,12 +79,12 @@ class Evidence:
     drops: dict[Type, set[int]] = field(default_factory=dict)
 
     def add(self, other: "Evidence") -> None:
-        for key, ways in other.signs.items():
-            self.signs[key] = self.signs.get(key, BOTH) & ways
+        for keys, ways in other.signs.items():
+            self.signs[keys] = self.signs.get(keys, BOTH) & ways
         for key, found in other.fields.items():
             self.add_field(key, found)
-        for key, found in other.drops.items():
-            self.drops.setdefault(key, set()).update(found)
+        for shape, regions in other.drops.items():
+            self.drops.setdefault(shape, set()).update(regions)
 
     def add_field(self, key: FieldKey, found: list[frozenset[int]]) -> None:
         known = self.fields.get(key)
@@ -127,18 +134,19 @@ class Definitions:
 
     def wants(self, less: Type, more: Type) -> set[tuple[int, int]]:
         """The pairs that the subtyping of two types of one shape asks."""
-        found = set()
+        found: set[tuple[int, int]] = set()
         for (a, sign), (b, _) in zip(self.positions(less), self.positions(more)):
-            found |= {"+": {(a, b)}, "-": {(b, a)}, "=": {(a, b), (b, a)}, "0": set()}[sign]
+            found |= {(a, b)} if sign in "+=" else set()
+            found |= {(b, a)} if sign in "-=" else set()
         return {(a, b) for a, b in found if a != b}
 
     def field(self, base: Type, variant: str, number: int, written: Optional[Type]) -> Optional[Type]:
         """The type of a field by the regions of the type that it is of; of that of a struct a use writes the shape."""
         if base.form == "tuple":
-            return base.parts[number] if number < len(base.parts) else None
+            return part_of(base, number) if number < len(base.parts) else None
         if base.form in ("closure", "coroutine"):
-            upvars = base.parts[0].parts
-            return upvars[number] if number < len(upvars) else None
+            upvars = part_of(base, 0)
+            return part_of(upvars, number) if number < len(upvars.parts) else None
         if written is None or not written.regions():
             return written and written.shape()
         found = self.evidence.fields.get((base.shape(), variant, number, written.shape()))
@@ -148,16 +156,16 @@ class Definitions:
         return written.with_list([regions[min(one)] if min(one) >= 0 else STATIC for one in found])
 
 
-def behind(definitions: Definitions, base: Type, step) -> Optional[Type]:
+def behind(definitions: Definitions, base: Type, step: Step) -> Optional[Type]:
     """The type of a place one step further; None where it isn't known."""
     if step.kind == "deref":
         if base.form in ("ref", "mut"):
-            return base.parts[1]
+            return part_of(base, 1)
         if base.form in ("pointer", "mut pointer") or is_box(base):
-            return base.parts[0]
+            return part_of(base, 0)
         return None
     if step.kind == "index":
-        return base.parts[0] if base.form == "slice" else PLAIN
+        return part_of(base, 0) if base.form == "slice" else PLAIN
     if step.kind in ("part", "variant"):
         return base
     return definitions.field(base, step.variant, step.field, step.type)

@@ -5,9 +5,10 @@ part. Each other type is a struct of its own, told by its shape: its parameters 
 """
 
 import re
-from typing import Callable, Iterator, NamedTuple, Optional
+from typing import Callable, Iterable, Iterator, NamedTuple, Optional
 
-from nllc_tools.model.definitions import Definitions, behind, is_box
+from nllc_tools.model.types.definitions import Definitions, behind, is_box
+from nllc_tools.rustc.mir.statements import Place, Step
 from nllc_tools.rustc.mir.types import STATIC, Region, Type
 from nllc_tools.rustc.unsaid import NotSaid
 
@@ -28,7 +29,7 @@ class Field(NamedTuple):
 class Structs:
     """The structs of one text."""
 
-    def __init__(self, definitions: Definitions, fields: Iterator[Field], structured: set[Type]):
+    def __init__(self, definitions: Definitions, fields: Iterable[Field], structured: set[Type]):
         self.definitions = definitions
         self.structured = structured
         self.wanted: dict[Type, dict[tuple[str, int], Optional[Type]]] = {}
@@ -192,7 +193,7 @@ def written(type: Type) -> str:
     return f"{type.name or 'a type'}<{', '.join(parts)}>" if parts else type.name or "a type"
 
 
-def step_of(structs: Structs, base: Type, step) -> Optional[str]:
+def step_of(structs: Structs, base: Type, step: Step) -> Optional[str]:
     """How a text writes a step from a place of a type; None where it can't."""
     if step.kind == "deref":
         if base.form == "mut pointer":
@@ -212,7 +213,7 @@ def step_of(structs: Structs, base: Type, step) -> Optional[str]:
     return None if index is None else f".{index}"
 
 
-def fields_of(definitions: Definitions, locals: dict[int, Type], places: Iterator) -> tuple[list[Field], set[Type]]:
+def fields_of(definitions: Definitions, locals: dict[int, Type], places: Iterator[Place]) -> tuple[list[Field], set[Type]]:
     """The fields that places go through, and the shapes without regions behind which there are some."""
     fields: dict[Field, None] = {}
     chains: list[list[Type]] = []
