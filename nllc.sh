@@ -122,7 +122,8 @@ $called has these commands of its own. Their programs are in frontend/, and aren
   $called --which                     prints whether the program is proved, and its path
 END
     [ "$home" != "$here" ] ||
-        echo "  $called --prove                     proves nllc and builds it; until then a slow build runs"
+        printf '  %s\n' "$called gallery [FOLDER]            makes pages of the small functions of examples/gallery" \
+            "$called --prove                     proves nllc and builds it; until then a slow build runs"
     cat <<END
 A FILE of - is standard input, but for schedule. rust, facts, mir, page, json, schedule and explain have --help. All else
 goes to nllc:
@@ -239,6 +240,10 @@ answer() {
 
 case $1 in
     rust | facts | mir | page | json | schedule | explain) frontend "$@" ;;
+    gallery)
+        [ "$home" = "$here" ] || end 2 "an installed copy has no examples: do that in the repository"
+        frontend "$@"
+        ;;
     check | values | replay) answer "$@" ;;
     help) [ "$#" -le 2 ] || end 2 "help takes one COMMAND, or none" && help "$2" ;;
     --help | -h) help ;;

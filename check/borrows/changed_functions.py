@@ -31,7 +31,7 @@ from changes import NAMED, Edit, changed, edited  # noqa: E402
 from rust_text import functions_of  # noqa: E402
 from sources import CRATES, Missing, crate_of  # noqa: E402
 
-from nll_facts import functions  # noqa: E402
+from nllc_tools.rustc import functions  # noqa: E402
 
 MOST_TRIES = 8              # of changes of one function
 MOST_ROUNDS = 20            # of rustc on one crate, until it refuses no change early

@@ -2,7 +2,7 @@
 
 from typing import NamedTuple
 
-from nll_facts.liveness import at_starts, bases, neighbours, spread, table_of
+from nllc_tools.model.liveness import at_starts, bases, neighbours, spread, table_of
 
 from sides import Both, closed, differing
 

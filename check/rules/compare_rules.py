@@ -24,15 +24,14 @@ from dataclasses import dataclass, field
 HERE = pathlib.Path(__file__).resolve().parent
 sys.path[:0] = [str(HERE), str(HERE.parent.parent / "frontend")]
 
-from nll_facts.command import split_words  # noqa: E402 (the paths stand above)
-from nll_facts.refusal import Refusal  # noqa: E402
-from nll_facts.workers import keep_silent  # noqa: E402
-from nll_mir.command import dumps_of_crate, dumps_of_file  # noqa: E402
-from nll_mir.refusal import NotSaid  # noqa: E402
-from nll_mir.texts import texts_of  # noqa: E402
-from nll_page.refusal import Refusal as Unread  # noqa: E402
-from nll_page.texts import problem_of  # noqa: E402
-from nll_schedule.program import find as find_world  # noqa: E402
+from nllc_tools.base.refusal import Refusal  # noqa: E402 (the paths stand above)
+from nllc_tools.base.workers import keep_silent  # noqa: E402
+from nllc_tools.base.world_program import find as find_world  # noqa: E402
+from nllc_tools.commands.inputs import split_words  # noqa: E402
+from nllc_tools.commands.mir import dumps_of_crate, dumps_of_file  # noqa: E402
+from nllc_tools.commands.texts import problem_of  # noqa: E402
+from nllc_tools.rustc.unsaid import NotSaid  # noqa: E402
+from nllc_tools.texts.mir.functions import texts_of  # noqa: E402
 
 from classes import UNEXPLAINED, differences  # noqa: E402
 from sides import Answering, Reading, both_of, differing  # noqa: E402
@@ -119,7 +118,7 @@ def row_of(made):
     if made.text:
         try:
             compare(made, row)
-        except (ValueError, KeyError, Refusal, Unread, NotSaid, subprocess.TimeoutExpired) as failure:
+        except (ValueError, KeyError, Refusal, NotSaid, subprocess.TimeoutExpired) as failure:
             row.failure = f"{type(failure).__name__} {failure}"
     return row
 

@@ -9,18 +9,17 @@ import subprocess
 from collections import defaultdict
 from dataclasses import dataclass, field
 
-from nll_facts.convert import Problem as FactsProblem
-from nll_facts.convert import constraints as asked_of
-from nll_facts.convert import live_points, named
-from nll_facts.mir import read_body
-from nll_facts.points import Points, number_points
-from nll_facts.regions import Regions
-from nll_facts.tables import Tables, read_tables
-from nll_facts.text import facts_text
-from nll_facts.wording import Remark
-from nll_mir.answers import numbers_of
-from nll_mir.function import Function, read_function
-from nll_page.facts import ALL, Facts
+from nllc_tools.commands.rules import numbers_of
+from nllc_tools.model.facts import ALL, Facts
+from nllc_tools.model.constraints import constraints as asked_of, live_points, named
+from nllc_tools.model.points import Points, number_points
+from nllc_tools.model.problem import Problem as FactsProblem
+from nllc_tools.model.remarks import Remark
+from nllc_tools.model.regions import Regions
+from nllc_tools.rustc.mir.body_reader import read_body
+from nllc_tools.rustc.mir.function import Function, read_function
+from nllc_tools.rustc.tables import Tables, read_tables
+from nllc_tools.texts.facts.writer import facts_text
 
 STATIC = 0
 

@@ -21,12 +21,15 @@ MEMORY = "/dev/shm" if os.path.isdir("/dev/shm") else None
 
 sys.path[:0] = [FRONTEND, HERE]
 
-from nll_facts import functions, rust  # noqa: E402 (the path stands above)
-from nll_facts.errors import LIFETIMES, LOANS  # noqa: E402
-from nll_facts.moves import MOVES  # noqa: E402
-from nll_facts.rustc import crate_name, find_rustc  # noqa: E402
-from nll_page import command, faults, nllc  # noqa: E402
-from nll_page.facts import read_facts  # noqa: E402
+from nllc_tools.base import nllc  # noqa: E402 (the path stands above)
+from nllc_tools.commands import answers as pages, rust  # noqa: E402
+from nllc_tools.model import faults  # noqa: E402
+from nllc_tools.model.moves import MOVES  # noqa: E402
+from nllc_tools.rustc import functions  # noqa: E402
+from nllc_tools.rustc.compiler import crate_name, find_rustc  # noqa: E402
+from nllc_tools.rustc.error_kinds import LIFETIMES, LOANS  # noqa: E402
+from nllc_tools.texts.facts.reader import read_facts  # noqa: E402
+from nllc_tools.views.terminal import answers  # noqa: E402
 from quick_solver import quick_values  # noqa: E402
 
 EDITION = re.compile(r"// edition: (\d+)\n")
@@ -169,8 +172,8 @@ def in_one_process():
     """Has `nllc.sh rust` answer here: by the quick solver, without other processes, without pages."""
     nllc.run = quick_report
     nllc.has_faults = lambda text: bool(quick_report(text).faults)
-    command.page = lambda content: ""
-    rust.MOST_NAMES = sys.maxsize
+    pages.page = lambda content: ""
+    answers.MOST_NAMES = sys.maxsize
     rust.find_program = lambda: None
     rust.side_by_side = functions.side_by_side = lambda work, things, few=0: map(work, things)
 

@@ -23,11 +23,12 @@ RIGHT = ("closures", "coroutines", "iterators", "right")
 sys.path[:0] = [FRONTEND, os.path.join(ROOT, "check", "reference")]
 
 import reference  # noqa: E402 (the slow reader and solver of check/reference/)
-from nll_facts.convert import convert  # noqa: E402
-from nll_facts.dumps import find_dumps  # noqa: E402
-from nll_facts.errors import own_errors  # noqa: E402
-from nll_facts.rustc import CRATE, Error, Label  # noqa: E402
-from nll_facts.text import facts_text  # noqa: E402
+from nllc_tools.rustc.compiler import CRATE  # noqa: E402
+from nllc_tools.rustc.dumps import find_dumps  # noqa: E402
+from nllc_tools.rustc.error_owners import own_errors  # noqa: E402
+from nllc_tools.rustc.errors import Error, Label  # noqa: E402
+from nllc_tools.texts.facts.conversion import convert  # noqa: E402
+from nllc_tools.texts.facts.writer import facts_text  # noqa: E402
 
 POINT = re.compile(r"# point (\d+): (?:line (\d+): )?(.*)")
 REGION = re.compile(r"# region '(\w+): (?:line (\d+): )?(.*)")

@@ -6,9 +6,9 @@ import tempfile
 from functools import cache
 
 import facts_support as support
-from nll_facts.dumps import find_dumps
-from nll_facts.rustc import CRATE
-from nll_mir.texts import definitions_of, text_of
+from nllc_tools.rustc.compiler import CRATE
+from nllc_tools.rustc.dumps import find_dumps
+from nllc_tools.texts.mir.functions import definitions_of, text_of
 
 SOURCE = "forms"
 REGION = re.compile(r"'(r\d+|new\d+)")

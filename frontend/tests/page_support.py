@@ -1,4 +1,4 @@
-"""What the tests of `nll_page` share: small texts, values of the slow reference, random problems.
+"""What the tests of pages share: small texts, values of the slow reference, random problems.
 """
 
 import os
@@ -13,8 +13,8 @@ sys.path[:0] = [os.path.join(ROOT, "frontend"), os.path.join(ROOT, "check", "ref
 
 import reference  # noqa: E402 (the paths stand above)
 
-from nll_page.facts import read_facts  # noqa: E402
-from nll_page.values import read_values  # noqa: E402
+from nllc_tools.texts.facts.reader import read_facts  # noqa: E402
+from nllc_tools.texts.facts.values import read_values  # noqa: E402
 
 SAMPLES = os.path.join(HERE, "page_samples")
 EXAMPLES = os.path.join(ROOT, "examples")

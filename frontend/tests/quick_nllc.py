@@ -11,8 +11,8 @@ sys.path[:0] = [FRONTEND, HERE, os.path.join(os.path.dirname(FRONTEND), "check",
 import reference  # noqa: E402 (the paths stand above)
 from quick_solver import quick_values  # noqa: E402
 
-from nll_page.facts import is_facts_text, read_facts  # noqa: E402
-from nll_page.faults import faults  # noqa: E402
+from nllc_tools.model.faults import faults  # noqa: E402
+from nllc_tools.texts.facts.reader import is_facts_text, read_facts  # noqa: E402
 
 
 def element(facts, number):

@@ -5,8 +5,8 @@ The tests that compare it with the slow reference stand in test_loans_golden.
 
 from collections import deque
 
-from nll_page.facts import ALL
-from nll_page.values import Values
+from nllc_tools.model.facts import ALL
+from nllc_tools.model.values import Values
 
 
 def reached(facts, inside, at):

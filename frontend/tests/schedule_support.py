@@ -1,4 +1,4 @@
-"""What the tests of `nll_schedule` share: the slow model in place of the program, small texts."""
+"""What the tests of schedules share: the slow model in place of the program, small texts."""
 
 import os
 
@@ -7,9 +7,9 @@ from page_support import EXAMPLES, ROOT, file_bytes
 import reference_states  # page_support has put check/reference/ on the path
 from reference_world import Asked
 
-from nll_page.facts import read_facts
-from nll_schedule.content import Content
-from nll_schedule.states import read_run
+from nllc_tools.texts.facts.reader import read_facts
+from nllc_tools.texts.schedule_states import read_run
+from nllc_tools.views.schedule.content import Content
 
 REFERENCE = os.path.join(ROOT, "check", "reference", "reference_states.py")
 

@@ -13,8 +13,8 @@ import shutil
 import tempfile
 
 import facts_support as support
-from nll_facts.tables import Tables
-from nll_facts.units import check_file
+from nllc_tools.rustc.tables import Tables
+from nllc_tools.rustc.units import check_file
 
 TABLES = {f"{name}.facts" for name in Tables.__dataclass_fields__}
 

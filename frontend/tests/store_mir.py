@@ -8,7 +8,7 @@ import tempfile
 
 import facts_support as support
 from mir_support import SOURCE
-from nll_mir.command import dumps_of_file
+from nllc_tools.commands.mir import dumps_of_file
 from store_facts import files_of
 
 

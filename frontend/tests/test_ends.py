@@ -66,7 +66,7 @@ class Ends(unittest.TestCase):
                            ("raise FileNotFoundError(errno.ENOENT, 'No usable folder')", "No usable folder"),
                            ("raise MemoryError", "out of memory")):
             script = (f"import sys, errno; sys.path.insert(0, {os.path.join(ROOT, 'frontend')!r})\n"
-                      f"from nll_page.streams import guarded\ndef work():\n    {work}\nsys.exit(guarded('page', work))\n")
+                      f"from nllc_tools.base.streams import guarded\ndef work():\n    {work}\nsys.exit(guarded('page', work))\n")
             done = subprocess.run([sys.executable, "-c", script], capture_output=True, check=False, encoding="utf-8")
             self.assertEqual((done.returncode, done.stdout, done.stderr), (3, "", f"nllc.sh page: {said}\n"))
 

@@ -6,11 +6,10 @@ import tempfile
 import unittest
 
 import facts_support as support
-from nll_facts.mir import read_body
-from nll_facts.tables import read_tables
-from nll_page import chains
-from nll_page import facts as page_facts
-from nll_page import values as page_values
+from nllc_tools.model import chains
+from nllc_tools.rustc.mir.body_reader import read_body
+from nllc_tools.rustc.tables import read_tables
+from nllc_tools.texts.facts import reader, values as page_values
 
 HOLDS = re.compile(r"// (holds|of): (.*)")
 NO_STATEMENT = re.compile(r"[\s{}();]*(else)?[\s{}();]*|\s*pub fn .*")
@@ -134,7 +133,7 @@ class Chains(unittest.TestCase):
                     self.judge(text, *fault)
 
     def judge(self, text, long, short):
-        facts = page_facts.read_facts(text.encode(), "golden")
+        facts = reader.read_facts(text.encode(), "golden")
         report = support.reference.answer("values", text.encode())[0].decode()
         values = page_values.read_values(report, facts, "reference")
         steps = chains.chain(facts, values, facts.names.index(long), facts.names.index(short))

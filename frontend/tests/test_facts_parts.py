@@ -9,18 +9,20 @@ import unittest
 from unittest import mock
 
 import facts_support as support
-from nll_facts.convert import Problem
-from nll_facts.dumps import Dump, file_name, type_name
-from nll_facts.functions import Found, choose
-from nll_facts.liveness import bases
-from nll_facts.mir import Body, Local, Span
-from nll_facts.refusal import Refusal
-from nll_facts.regions import Regions, name_regions
-from nll_facts.tables import Location, Reader, Spot, Subsets, Tables, read_tables
-from nll_facts.text import free_path, write_whole
-from nll_facts.units import Unit
-from nll_facts.wording import Remark, Wording
-from nll_page.texts import main as page
+from nllc_tools.base.files import free_path, write_whole
+from nllc_tools.base.refusal import Refusal
+from nllc_tools.commands.page import main as page
+from nllc_tools.model.liveness import bases
+from nllc_tools.model.problem import Problem
+from nllc_tools.model.remarks import Remark
+from nllc_tools.model.regions import Regions, name_regions
+from nllc_tools.rustc.dumps import Dump, file_name, type_name
+from nllc_tools.rustc.functions import Found, choose
+from nllc_tools.rustc.mir.body import Body, Local
+from nllc_tools.rustc.mir.spans import Span
+from nllc_tools.rustc.tables import Location, Reader, Spot, Subsets, Tables, read_tables
+from nllc_tools.rustc.units import Unit
+from nllc_tools.texts.facts.wording import Wording
 
 
 def tables(**given):

@@ -11,12 +11,13 @@ import unittest
 from collections import defaultdict
 
 import facts_support as support
-from nll_facts.dumps import find_dumps
-from nll_facts.liveness import bases
-from nll_facts.mir import locations, read_body
-from nll_facts.points import number_points
-from nll_facts.rustc import CRATE
-from nll_facts.tables import read_tables
+from nllc_tools.model.liveness import bases
+from nllc_tools.model.points import number_points
+from nllc_tools.rustc.compiler import CRATE
+from nllc_tools.rustc.dumps import find_dumps
+from nllc_tools.rustc.mir.body import locations
+from nllc_tools.rustc.mir.body_reader import read_body
+from nllc_tools.rustc.tables import read_tables
 
 VALUE = re.compile(r"\| '\?(\d+) \| U\d+ \| \{(.*)\}")
 UNIVERSAL = re.compile(r"'\?(\d+)")

@@ -1,10 +1,12 @@
 """The gallery: its cards, and the command that makes it."""
 
+import hashlib
 import io
 import json
 import os
 import re
 import shutil
+import sys
 import tempfile
 import unittest
 from contextlib import redirect_stderr, redirect_stdout
@@ -14,11 +16,15 @@ from unittest import mock
 import page_support
 from test_page_glance import LOAN, SOURCE, content_of
 
-from nll_facts.rustc import version
-from nll_gallery import cards, command
-from nll_gallery.cards import Shown
-from nll_page.page import SCRIPTS, compact, template
+from nllc_tools.commands import gallery
+from nllc_tools.rustc.compiler import version
+from nllc_tools.views.gallery import cards
+from nllc_tools.views.gallery.cards import Shown
+from nllc_tools.views.html.page import SCRIPTS
+from nllc_tools.views.html.index_rows import row_in
+from nllc_tools.views.html.template_files import compact, template
 
+GOLDEN = os.path.join(page_support.HERE, "golden", "gallery.txt")
 QUICK = os.path.join(page_support.HERE, "quick_nllc.py")
 SLOW = os.path.join(page_support.ROOT, "check", "reference", "reference_states.py")
 
@@ -57,28 +63,74 @@ class Cards(unittest.TestCase):
 
 
 class Kept(unittest.TestCase):
-    """What docs/ has of pages has the style and the script that pages have today; else run `frontend/run gallery`, and
-    frontend/tests/browser/pictures.py."""
+    """What docs/ has of pages has the style and the script that pages have today; else run frontend/tests/browser/pictures.py."""
 
     def test_style_and_script(self):
         style = compact(template("look.css") + template("code.css") + template("page.css"))
         script = compact("\n".join(map(template, SCRIPTS)))
-        folder = os.path.join(page_support.ROOT, "docs")
-        for path in [*glob(os.path.join(folder, "gallery", "*.html")), *glob(os.path.join(folder, "pages", "*.html"))]:
+        for path in glob(os.path.join(page_support.ROOT, "docs", "pages", "*.html")):
             made = page_support.file_bytes(path).decode()
             if 'content="nll-page"' in made:
                 with self.subTest(path=path):
                     self.assertTrue(style in made and script in made)
 
 
+def make(folder):
+    """Makes the gallery with the quick stand-ins for programs; the status, and what is printed."""
+    out, err, before = io.StringIO(), io.StringIO(), os.getcwd()
+    try:
+        with mock.patch.dict(os.environ, NLLC=QUICK, WORLD_PROGRAM=SLOW), redirect_stdout(out), redirect_stderr(err):
+            return gallery.main([folder]), out.getvalue(), err.getvalue()
+    finally:
+        os.chdir(before)
+
+
+def settled(made):
+    """What a page says: without its head, its scripts and its foot, and with its constraints in order, since they are a set."""
+    body = re.sub(r"<footer>.*?</footer>|<style>.*?</style>|<script>.*?</script>", "", made, flags=re.DOTALL)
+    return re.sub(r'"constraints":(\[\[.*?\]\])', lambda found: str(sorted(json.loads(found[1]))), body)
+
+
+def said_in(folder):
+    """Of each page of a gallery what an index says of it, and a sum of the page."""
+    for name in sorted(os.listdir(folder)):
+        made = page_support.file_bytes(os.path.join(folder, name)).decode()
+        row = row_in(os.path.join(folder, name))
+        yield f"{name} {hashlib.sha256(settled(made).encode()).hexdigest()[:16]}"
+        if row:
+            yield f"    {row.source}:{row.line}: {row.said}; rustc: {row.rustc}; {row.points} points, {row.regions} regions"
+            yield from (f"    line {line}: {words}" for line, words in row.told)
+
+
+def all_said(folder):
+    return "".join(f"{line}\n" for line in [f"rustc {version().split()[1]}", *said_in(folder)])
+
+
+@unittest.skipUnless(shutil.which("rustc"), "no rustc")
+class Whole(unittest.TestCase):
+    @classmethod
+    def setUpClass(cls):
+        folder = tempfile.TemporaryDirectory()
+        cls.addClassCleanup(folder.cleanup)
+        cls.folder = folder.name
+        cls.status, _, cls.said = make(cls.folder)
+
+    def test_it_says_what_it_said(self):
+        """Else look at the pages that `./nllc.sh gallery` makes, before and after; `test_gallery.py --write` takes them over."""
+        self.maxDiff = None
+        golden = page_support.file_bytes(GOLDEN).decode()
+        if golden.partition("\n")[0] != f"rustc {version().split()[1]}":
+            self.skipTest("the golden file is of another rustc")
+        self.assertEqual((self.status, self.said), (0, ""))
+        self.assertEqual(all_said(self.folder), golden)
+
     def test_links(self):
         """Each page is linked from the gallery's own, and links back to it."""
-        folder = os.path.join(page_support.ROOT, "docs", "gallery")
-        whole = page_support.file_bytes(os.path.join(folder, "index.html")).decode()
-        names = sorted(name for name in os.listdir(folder) if name != "index.html")
+        whole = page_support.file_bytes(os.path.join(self.folder, "index.html")).decode()
+        names = sorted(name for name in os.listdir(self.folder) if name != "index.html")
         self.assertEqual(sorted({*re.findall(r'href="\./([^"#]*)', whole)}), names)
         for name in names:
-            self.assertIn('<a class="back" href="./index.html">', page_support.file_bytes(os.path.join(folder, name)).decode())
+            self.assertIn('<a class="back" href="./index.html">', page_support.file_bytes(os.path.join(self.folder, name)).decode())
 
 
 class Command(unittest.TestCase):
@@ -87,38 +139,18 @@ class Command(unittest.TestCase):
         before = os.getcwd()
         self.addCleanup(os.chdir, before)
         with mock.patch.dict(os.environ, environment), redirect_stdout(out), redirect_stderr(err):
-            return command.main(list(words)), out.getvalue(), err.getvalue()
+            return gallery.main(list(words)), out.getvalue(), err.getvalue()
 
     def test_words(self):
         self.assertEqual(self.run_main("--help")[0::2], (0, ""))
         status, out, err = self.run_main("a", "b")
         self.assertEqual((status, out), (2, ""))
-        self.assertIn("usage: frontend/run gallery", err)
-
-    @unittest.skipUnless(shutil.which("rustc"), "no rustc")
-    def test_the_kept_gallery_is_today_s(self):
-        """docs/gallery is what the command makes, but for what made the answers; else run `frontend/run gallery`."""
-        kept = os.path.join(page_support.ROOT, "docs", "gallery")
-        if f"rustc {version().split()[1]}" not in page_support.file_bytes(os.path.join(kept, "index.html")).decode():
-            self.skipTest("docs/gallery is of another rustc")
-        with tempfile.TemporaryDirectory() as folder:
-            self.assertEqual(self.run_main(folder, NLLC=QUICK, WORLD_PROGRAM=SLOW)[0], 0)
-            self.assertEqual(sorted(os.listdir(folder)), sorted(os.listdir(kept)))
-            for name in os.listdir(folder):
-                with self.subTest(name=name):
-                    made, there = (self.settled(page_support.file_bytes(os.path.join(where, name)).decode())
-                                   for where in (folder, kept))
-                    self.assertTrue(made == there)
-
-    def settled(self, page):
-        """A page without its foot, and with its constraints in order: they are a set."""
-        return re.sub(r'"constraints":(\[\[.*?\]\])', lambda found: str(sorted(json.loads(found[1]))),
-                      re.sub(r"<footer>.*?</footer>", "", page))
+        self.assertIn("usage: nllc.sh gallery", err)
 
     @unittest.skipUnless(shutil.which("rustc"), "no rustc")
     def test_one_file_one_text_and_one_schedule(self):
         with tempfile.TemporaryDirectory() as folder, \
-                mock.patch.multiple(command, FILES={"variance": "Variance"}, MIR_TEXTS={"drop": ("w", "A drop.")},
+                mock.patch.multiple(gallery, FILES={"variance": "Variance"}, MIR_TEXTS={"drop": ("w", "A drop.")},
                                     SCHEDULES={"each_other": "Two owners."}):
             status, out, err = self.run_main(folder, NLLC=QUICK, WORLD_PROGRAM=SLOW)
             self.assertEqual((status, out, err), (0, os.path.join(folder, "index.html") + "\n", ""))
@@ -133,5 +165,12 @@ class Command(unittest.TestCase):
         self.assertEqual(whole.count('class="card faulty"'), 3)
 
 
+def write():
+    with tempfile.TemporaryDirectory() as folder:
+        if make(folder)[0] == 0:
+            with open(GOLDEN, "w", encoding="utf-8") as file:
+                file.write(all_said(folder))
+
+
 if __name__ == "__main__":
-    unittest.main()
+    write() if sys.argv[1:] == ["--write"] else unittest.main()

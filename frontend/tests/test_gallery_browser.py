@@ -4,17 +4,19 @@ and with two sets of fonts; and every control of one page of each kind."""
 import os
 import shutil
 import sys
+import tempfile
 import unittest
 import xml.etree.ElementTree as ElementTree
 
-from page_support import ROOT
+from test_gallery import make
 
 sys.path.insert(0, os.path.join(os.path.dirname(os.path.abspath(__file__)), "browser"))
 
 import devtools  # noqa: E402 (the path stands above)
 
-GALLERY = os.path.join(ROOT, "docs", "gallery")
-PAGES = sorted(name for name in os.listdir(GALLERY) if name.endswith(".html"))
+HAS_ALL = bool(shutil.which("rustc")) and any(map(shutil.which, devtools.NAMES))
+ROOM = tempfile.TemporaryDirectory()
+GALLERY = ROOM.name     # made for these tests
 FOLDERS = "/usr/share/fonts/truetype"
 FONTS = {"noto": ("noto", "dejavu"), "dejavu": ("dejavu",)}
 WIDTHS = (1400, 768, 360)
@@ -22,18 +24,23 @@ LEAST_LETTERS = 10
 LEAST_CONTRAST = 4.5
 
 
+def setUpModule():
+    if HAS_ALL:
+        make(GALLERY)
+
+
 def fonts_of(name):
     return [os.path.join(FOLDERS, folder) for folder in FONTS[name]]
 
 
-@unittest.skipUnless(any(map(shutil.which, devtools.NAMES)), "there is no Chromium")
+@unittest.skipUnless(HAS_ALL, "there is no Chromium, or no rustc")
 class Gallery(unittest.TestCase):
     def views(self, fonts, look):
         """All pages with these fonts: letters and overflow, and what else is looked at; no word of the console."""
         if not all(map(os.path.isdir, fonts_of(fonts))):
             self.skipTest(f"there are no fonts in {', '.join(fonts_of(fonts))}")
         with devtools.Browser(fonts_of(fonts)) as browser:
-            for name in PAGES:
+            for name in sorted(os.listdir(GALLERY)):
                 shown = browser.open(os.path.join(GALLERY, name), 1400, 900)
                 with self.subTest(name=name, fonts=fonts):
                     self.letters(shown)
@@ -66,7 +73,7 @@ class Gallery(unittest.TestCase):
 
     def test_a_phone_s_first_view(self):
         with devtools.Browser() as browser:
-            for name in PAGES:
+            for name in sorted(os.listdir(GALLERY)):
                 shown = browser.open(os.path.join(GALLERY, name), 390, 844)
                 with self.subTest(name=name):
                     self.letters(shown)
@@ -74,7 +81,7 @@ class Gallery(unittest.TestCase):
                 shown.close()
 
 
-@unittest.skipUnless(any(map(shutil.which, devtools.NAMES)), "there is no Chromium")
+@unittest.skipUnless(HAS_ALL, "there is no Chromium, or no rustc")
 class Controls(unittest.TestCase):
     @classmethod
     def setUpClass(cls):

@@ -7,7 +7,7 @@ import subprocess
 import unittest
 
 import facts_support as support
-from nll_facts.rustc import find_rustc
+from nllc_tools.rustc.compiler import find_rustc
 from schema_checker import errors
 from test_facts_command import RUST, Room, needs_known
 from test_project import QUICK

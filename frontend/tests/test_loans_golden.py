@@ -10,11 +10,15 @@ import unittest
 
 import facts_support as support
 import page_support
-from nll_facts.errors import LIFETIMES, LOANS
-from nll_page import chains, differences, faults, source as sources, telling
-from nll_page.facts import read_facts
-from nll_page.loans import loan_faults
-from nll_page.page import Content, Fault
+from nllc_tools.base.sentences import plain
+from nllc_tools.judge import differences
+from nllc_tools.judge.as_rustc.loan_faults import loan_faults
+from nllc_tools.judge.content import Content, Fault
+from nllc_tools.judge.findings import findings
+from nllc_tools.model import chains, faults
+from nllc_tools.rustc.error_kinds import LIFETIMES, LOANS
+from nllc_tools.texts import source as sources
+from nllc_tools.texts.facts.reader import read_facts
 from quick_solver import quick_values
 
 KINDS = ("E0499", "E0502", "E0505", "E0506", "E0597", "E0515", "E0716", "E0503", "E0373", "E0510", "E0713",
@@ -38,7 +42,7 @@ def found_in(source):
     """The code, line and column of each fault of a source."""
     found = set()
     for text in support.stored_texts(source).values():
-        for one in telling.all_of(content_of(text, source)):
+        for one in findings.all_of(content_of(text, source)):
             found.add((one.code if one.code in LOANS else "", one.place.line, one.place.column))
     return found
 
@@ -67,7 +71,7 @@ class Moves(unittest.TestCase):
         found, since = set(), set()
         for text in support.stored_texts("moves").values():
             content = content_of(text, "moves")
-            for one in telling.all_of(content):
+            for one in findings.all_of(content):
                 found.add((one.code, one.place.line, one.place.column))
                 since.update(content.facts.remarks.point(point).line for point in one.fault.since)
             self.assertEqual(differences.refused(content), [])
@@ -81,8 +85,8 @@ class Moves(unittest.TestCase):
 
     def test_words(self):
         content = content_of(support.stored_texts("moves")["on_one_way.facts"], "moves")
-        [one] = telling.all_of(content)
-        self.assertEqual([telling.words.plain(one.head), telling.words.plain(one.cause)], [
+        [one] = findings.all_of(content)
+        self.assertEqual([plain(one.head), plain(one.cause)], [
             "`text` is used here, and line 20 may have moved it",
             "line 20 (`drop(text);`) moves it, and a path leads from there to here on which it gets no new value "
             "(by lines 20, 21, 22)"])
@@ -148,7 +152,7 @@ class Differences(unittest.TestCase):
         name = f"{function}.facts"
         content = content_of(support.golden_text("differ", function))
         self.assertFalse(content.faults or content.loans, name)
-        return [(line, words.split(":")[0], telling.words.plain(why))
+        return [(line, words.split(":")[0], plain(why))
                 for line, _, words, why in differences.differences(content)]
 
     def test_problem_case_3(self):

@@ -6,20 +6,29 @@ import tempfile
 import unittest
 
 import page_support
-from nll_facts.accesses import accesses
-from nll_facts.desugarings import Desugarings, declarations
-from nll_facts.destructors import destroyed_by, path_to
-from nll_facts.dumps import Dump
-from nll_facts.errors import own_errors
-from nll_facts.mir import Body, Local, Span, reason_of
-from nll_facts.places import Place, overlap, read_place
-from nll_facts.rustc import Error, crate_name, read_error
-from nll_page import blame, chains, differences, lifetimes, loans, telling
-from nll_page.facts import Constraint
-from nll_page.page import Content, Fault
-from nll_page.snippets import snippet, whole_line
-from nll_page.source import Source
-import nll_page.streams  # noqa: F401 (the codec `plain`)
+from nllc_tools.base.sentences import plain
+from nllc_tools.judge import differences
+from nllc_tools.judge.as_rustc import blame, causes, lifetimes, loan_faults
+from nllc_tools.judge.content import Content, Fault
+from nllc_tools.judge.findings import findings, loan_findings
+from nllc_tools.model import chains
+from nllc_tools.model.facts import Constraint
+from nllc_tools.rustc.compiler import crate_name
+from nllc_tools.rustc.dumps import Dump
+from nllc_tools.rustc.error_owners import own_errors
+from nllc_tools.rustc.errors import Error, read_error
+from nllc_tools.rustc.mir.accesses import accesses
+from nllc_tools.rustc.mir.body import Body, Local
+from nllc_tools.rustc.mir.body_reader import reason_of
+from nllc_tools.rustc.mir.debug_places import Place, overlap, read_place
+from nllc_tools.rustc.mir.destructors import destroyed_by, path_to
+from nllc_tools.rustc.mir.desugarings import Desugarings, declarations
+from nllc_tools.rustc.mir.spans import Span
+from nllc_tools.model.said import Place as SourcePlace
+from nllc_tools.texts.snippets import snippet, whole_line
+from nllc_tools.texts.source import Source
+from nllc_tools.views.terminal import finding_lines
+import nllc_tools.base.streams  # noqa: F401 (the codec `plain`)
 from quick_solver import quick_values
 
 
@@ -180,7 +189,7 @@ class Loans(unittest.TestCase):
     def content(self, *lines):
         facts = page_support.facts_of(4, *lines)
         values = quick_values(facts)
-        return Content(facts, values, [], "TEXT", SOURCE, "", "", list(loans.loan_faults(facts, values)))
+        return Content(facts, values, [], "TEXT", SOURCE, "", "", list(loan_faults.loan_faults(facts, values)))
 
     def test_in_force(self):
         [fault] = self.content(*TEXT).loans
@@ -213,10 +222,10 @@ class Loans(unittest.TestCase):
 
     def test_a_use_in_another_line_than_its_statement(self):
         for line in ("# called 2, 3:5-3:9", "# captured 2 'y, 3:5-3:9"):
-            [one] = telling.all_of(self.content(*TEXT, line))
-            self.assertIn("since line 3 uses it (`show(y);`)", telling.words.plain(one.cause))
-        [one] = telling.all_of(self.content(*TEXT, "# captured 2 'x, 3:5-3:9"))
-        self.assertIn("since the same line uses it", telling.words.plain(one.cause))
+            [one] = findings.all_of(self.content(*TEXT, line))
+            self.assertIn("since line 3 uses it (`show(y);`)", plain(one.cause))
+        [one] = findings.all_of(self.content(*TEXT, "# captured 2 'x, 3:5-3:9"))
+        self.assertIn("since the same line uses it", plain(one.cause))
 
     def test_a_call_that_never_returns_uses_nothing_later(self):
         lines = ("region 'x", "next 0 1", "next 1 2", "next 1 3", "next 2 4", "next 3 5", "return 4", "return 5",
@@ -225,15 +234,15 @@ class Loans(unittest.TestCase):
                  "# point 3: line 2: nop (bb2[0])", "# point 2: line 3: drop(y) (bb1[0])", "# point 5: line 3: show (bb2[1])")
         for text, use in (("f() -> bb1", 5), ("f() -> [return: bb1, unwind: bb9]", 2)):
             facts = page_support.facts_of(6, *lines, f"# point 1: line 2: {text} (bb0[1])")
-            [fault] = loans.loan_faults(facts, quick_values(facts))
+            [fault] = loan_faults.loan_faults(facts, quick_values(facts))
             self.assertEqual(fault.cause.use, use)
 
     def test_an_earlier_turn(self):
         [fault] = self.content("region 'x", "next 0 1", "next 1 0", "next 1 2", "return 2", "base 'x 0",
                                "base 'x 1", "# loan 0: 'x at 0, 1:9-1:11, mut of a",
                                "# against 0, 1:9-1:11, mut: 0", "# point 0: line 1: y = &mut a").loans
-        told = telling.of_loan(self.content(), fault)
-        self.assertEqual(telling.words.plain(told.head), "`&a` borrows `a` as mutable, which it has borrowed as "
+        told = loan_findings.of_loan(self.content(), fault)
+        self.assertEqual(plain(told.head), "`&a` borrows `a` as mutable, which it has borrowed as "
                          "mutable in an earlier iteration of the loop")
 
     def test_what_a_loan_must_outlive(self):
@@ -245,7 +254,7 @@ class Loans(unittest.TestCase):
             facts = page_support.facts_of(1, *lines, *more)
             values = quick_values(facts)
             region = facts.names.index("x")
-            self.assertEqual(facts.names[loans.why(facts, values, region, 0).region], name, more)
+            self.assertEqual(facts.names[causes.why(facts, values, region, 0).region], name, more)
 
     def test_what_rustc_names_of_a_loan_once_more(self):
         here, there = "# rustc 2:5: E0506: cannot assign", "# rustc 3:1: E0515: cannot return"
@@ -269,8 +278,8 @@ class Loans(unittest.TestCase):
 
     def test_two_lines(self):
         content = self.content(*TEXT)
-        [one] = telling.all_of(content)
-        self.assertEqual(telling.lines(content, one), [
+        [one] = findings.all_of(content)
+        self.assertEqual(finding_lines.lines(content, one), [
             "a.rs:2:5: E0506: `a` is assigned to, and line 1 has borrowed it as mutable",
             "    the loan of line 1 (`&a`) is live: its region `'x` holds line 2, since the same line "
             "uses it",
@@ -285,7 +294,7 @@ class Blame(unittest.TestCase):
     def best(self, *words):
         facts = self.facts(*words)
         found = blame.reasons(facts, Constraint(1, 2, 1))
-        return min(found, key=blame.Blame.rank, default=None)
+        return min(found, key=blame.Blamed.rank, default=None)
 
     def test_ranks(self):
         self.assertEqual(self.best("step", "assignment", "return").word, "return")
@@ -300,7 +309,7 @@ class Lifetimes(unittest.TestCase):
     def told(self, remark):
         facts = page_support.facts_of(1, f"# region 'r1: line 1: {remark}", "universal 'r1")
         own = lifetimes.Lifetimes(Content(facts, None, [], "TEXT", SOURCE, "", ""))
-        return telling.words.plain(own.name(1)), telling.words.plain(own.places(1))
+        return plain(own.name(1)), plain(own.places(1))
 
     def test_with_and_without_names(self):
         self.assertEqual(self.told("'a of the signature; the type of x: &'a u8"), ("`'r1`", ""))
@@ -321,10 +330,10 @@ class Lifetimes(unittest.TestCase):
             "# note: mutable references are invariant over their type parameter",
             "# help: consider this: `fn f<'a>()`")
         values = quick_values(facts)
-        [one] = telling.all_of(Content(facts, values, [Fault(1, 2, chains.chain(facts, values, 1, 2))], "TEXT", source, "", ""))
-        self.assertEqual(telling.words.plain(one.head), "`'1` must outlive `'2`, but the signature doesn't declare it: "
+        [one] = findings.all_of(Content(facts, values, [Fault(1, 2, chains.chain(facts, values, 1, 2))], "TEXT", source, "", ""))
+        self.assertEqual(plain(one.head), "`'1` must outlive `'2`, but the signature doesn't declare it: "
                          "this call requires it")
-        self.assertEqual([telling.words.plain(line) for line in one.more],
+        self.assertEqual([plain(line) for line in one.more],
                          ["line 1 with names: `fn f(list: &mut Vec<&u8>, one: &'1 u8, all: &mut Names<'_>) {`; "
                           "the type of `all` is `Names<'2>`",
                           "invariant: mutable references are invariant over their type parameter",
@@ -337,14 +346,14 @@ class Lifetimes(unittest.TestCase):
             "# rustc 2:5: lifetime may not live long enough", "# label 2:5-2:19: argument requires that `'a` must outlive `'c`")
         values = quick_values(facts)
         faults = [Fault(1, sub, chains.chain(facts, values, 1, sub)) for sub in (2, 3)]
-        [one] = telling.all_of(Content(facts, values, faults, "TEXT", SOURCE, "", ""))
-        self.assertEqual(telling.words.plain(one.head), "`'a` must outlive `'c` and `'b`, but the signature doesn't "
+        [one] = findings.all_of(Content(facts, values, faults, "TEXT", SOURCE, "", ""))
+        self.assertEqual(plain(one.head), "`'a` must outlive `'c` and `'b`, but the signature doesn't "
                          "declare it: this call requires it")
 
     def test_names_in_a_line(self):
-        place = loans.Place(1, 8, 1, 10)
+        place = SourcePlace(1, 8, 1, 10)
         self.assertEqual(lifetimes.named_line(Source("a.rs", 1, ["f(x: A<'_>, y: A)"]), 1,
-                                              [(place, "'1"), (loans.Place(1, 16, 1, 17), "'2")]), "f(x: A<'1>, y: A<'2>)")
+                                              [(place, "'1"), (SourcePlace(1, 16, 1, 17), "'2")]), "f(x: A<'1>, y: A<'2>)")
 
 
 class Desugared(unittest.TestCase):
@@ -378,7 +387,7 @@ class AnyLocale(unittest.TestCase):
 
 class Snippets(unittest.TestCase):
     def place(self, *numbers):
-        return loans.Place(*numbers)
+        return SourcePlace(*numbers)
 
     def test_words_of_a_place(self):
         self.assertEqual(snippet(SOURCE, self.place(1, 9, 1, 11)), "&a")

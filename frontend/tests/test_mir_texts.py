@@ -11,7 +11,8 @@ from dataclasses import replace
 
 import facts_support as support
 import mir_support as mir
-from nll_mir.texts import NOT_READ, text_of
+from nllc_tools.rustc.unsaid import NOT_READ
+from nllc_tools.texts.mir.functions import text_of
 
 # For each function lines of its text.
 LINES = {

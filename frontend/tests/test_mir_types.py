@@ -3,10 +3,11 @@
 import unittest
 
 import facts_support  # noqa: F401 (it puts the frontend on the path)
-from nll_mir.refusal import NotSaid
-from nll_mir.statements import (Assign, Call, Constant, Drop, Jump, Leave, Place, Read, Step, Storage, read_statement,
-                                read_terminator)
-from nll_mir.types import PLAIN, UNIT, Type, read_type
+from nllc_tools.rustc.mir.statement_reader import read_statement, read_terminator
+from nllc_tools.rustc.mir.statements import Assign, Call, Constant, Drop, Jump, Leave, Place, Read, Step, Storage
+from nllc_tools.rustc.mir.type_reader import read_type
+from nllc_tools.rustc.mir.types import PLAIN, UNIT, Type
+from nllc_tools.rustc.unsaid import NotSaid
 
 STR = Type("plain", "str")
 U8 = Type("plain", "u8")

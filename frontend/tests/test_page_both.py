@@ -10,15 +10,22 @@ from facts_support import stored_texts
 from page_support import EXAMPLES, Folder, file_bytes, random_text, reference, solved, text
 from quick_solver import quick_values
 
-from nll_page import both, nllc
-from nll_page.chains import chain, check
-from nll_page.command import explained
-from nll_page.facts import ALL, read_facts
-from nll_page.faults import faults
-from nll_page.region_list import region_list
-from nll_page.page import Content, page
-from nll_page.refusal import Refusal
-from nll_page.words import plain, step_brief, step_sentence
+from nllc_tools.base import nllc
+from nllc_tools.base.refusal import Refusal
+from nllc_tools.base.sentences import plain
+from nllc_tools.judge import two_answers
+from nllc_tools.judge.answer import explained
+from nllc_tools.judge.chain_sentences import step_brief, step_sentence
+from nllc_tools.judge.content import Content
+from nllc_tools.model.chains import chain, check
+from nllc_tools.model.facts import ALL
+from nllc_tools.model.faults import faults
+from nllc_tools.texts.facts import widening
+from nllc_tools.texts.facts.reader import read_facts
+from nllc_tools.views.html.page import page
+from nllc_tools.views.html.parts import answers_part
+from nllc_tools.views.html.parts.region_list import region_list
+from nllc_tools.views.terminal import second_answer
 
 
 def second(points, *lines):
@@ -32,7 +39,7 @@ def content_of(data):
 
 
 def with_both(data):
-    return content_of(data)._replace(everywhere=content_of(both.at_all_points(data)))
+    return content_of(data)._replace(everywhere=content_of(widening.at_all_points(data)))
 
 
 class Reading(unittest.TestCase):
@@ -67,7 +74,7 @@ class Chains(unittest.TestCase):
 
     def test_random_texts(self):
         for seed in range(60):
-            data = both.at_all_points(random_text(seed))
+            data = widening.at_all_points(random_text(seed))
             facts, values = solved(data)
             self.assertEqual(quick_values(facts).rows, values.rows)
             for fault in explained(facts, values, faults(facts, values), "nllc"):
@@ -77,7 +84,7 @@ class Chains(unittest.TestCase):
 class Both(unittest.TestCase):
     def test_the_second_text(self):
         self.assertEqual(
-            both.at_all_points(b"nll-facts 1\npoints 2\n# constraint\nregion 'x\nconstraint 'x 'x 0\n"
+            widening.at_all_points(b"nll-facts 1\npoints 2\n# constraint\nregion 'x\nconstraint 'x 'x 0\n"
                                b"constraint'x'x 1\n\tconstraint 'static 'x 1 \nend\n"),
             b"nll-facts 2\npoints 2\n# constraint\nregion 'x\nconstraint 'x 'x all\n"
             b"constraint 'static 'x all\nend\n")
@@ -85,17 +92,17 @@ class Both(unittest.TestCase):
     def test_what_it_says(self):
         for seed in range(60):
             data = random_text(seed)
-            said = reference.said_in(both.at_all_points(data))
+            said = reference.said_in(widening.at_all_points(data))
             first = reference.said_in(data)
             self.assertEqual(said.constraints, {(a, b, ALL) for a, b, _ in first.constraints})
             self.assertEqual((said.edges, said.bases), (first.edges, first.bases))
 
     def test_a_fault_in_the_second_alone(self):
         content = with_both(file_bytes(EXAMPLES, "overwritten.facts"))
-        self.assertEqual(both.counted(content), "no fault")
-        self.assertEqual(both.counted(content.everywhere), "1 fault")
-        self.assertEqual([content.facts.names[r] for r in both.differing(content)], ["a", "p"])
-        told = list(both.lines(content))
+        self.assertEqual(two_answers.counted(content), "no fault")
+        self.assertEqual(two_answers.counted(content.everywhere), "1 fault")
+        self.assertEqual([content.facts.names[r] for r in two_answers.differing(content)], ["a", "p"])
+        told = list(second_answer.lines(content))
         self.assertEqual(told[0], "with each constraint at all points: 1 fault, in place of no fault")
         made = page(content)
         self.assertIn('<section class="answers"', made)
@@ -108,17 +115,17 @@ class Both(unittest.TestCase):
 
     def test_both_the_same(self):
         content = with_both(text(1, "universal 'a", "return 0", "constraint 'static 'a 0"))
-        self.assertEqual(list(both.lines(content)), [])
-        self.assertIn("Each region holds the same in both.", both.both(content))
+        self.assertEqual(list(second_answer.lines(content)), [])
+        self.assertIn("Each region holds the same in both.", answers_part.both(content))
 
     def test_no_second_answer(self):
         content = content_of(text(1, "return 0"))
-        self.assertEqual(both.both(content), "")
+        self.assertEqual(answers_part.both(content), "")
         self.assertNotIn('class="answers"', page(content))
 
     def test_examples_at_all_points(self):
         for name in ("running", "overwritten"):
-            first = read_facts(both.at_all_points(file_bytes(EXAMPLES, f"{name}.facts")), "TEXT")
+            first = read_facts(widening.at_all_points(file_bytes(EXAMPLES, f"{name}.facts")), "TEXT")
             other = read_facts(file_bytes(EXAMPLES, f"{name}_everywhere.facts"), "TEXT")
             self.assertEqual(first.constraints, other.constraints)
 
@@ -129,39 +136,41 @@ class Both(unittest.TestCase):
 
 class Command(Folder):
     def test_answered(self):
-        from nll_page import command
+        from nllc_tools.commands import answers
         text = file_bytes(EXAMPLES, "overwritten.facts")
         path = self.write("overwritten.facts", text)
         self.enterContext(unittest.mock.patch.dict("os.environ", {"NLLC": self.path("nllc")}))
-        said = command.answered(path, text, False, everywhere=True)
+        said = answers.answered(path, text, False, everywhere=True)
         self.assertEqual(said["faults"], 0)
         self.assertEqual(said["everywhere"][0],
                          "with each constraint at all points: 1 fault, in place of no fault")
-        self.assertEqual(command.answered(path, text, False)["everywhere"], [])
+        self.assertEqual(answers.answered(path, text, False)["everywhere"], [])
 
     def test_a_page_where_something_is_told(self):
-        from nll_page import command
+        from nllc_tools.commands import answers
         self.enterContext(unittest.mock.patch.dict("os.environ", {"NLLC": self.path("nllc")}))
         for name, has_page in (("running", False), ("as_static", True)):
             text = file_bytes(EXAMPLES, f"{name}.facts")
-            said = command.answered(self.write(f"{name}.facts", text), text, False, has_page=False)
+            said = answers.answered(self.write(f"{name}.facts", text), text, False, has_page=False)
             self.assertEqual("page" in said, has_page)
             self.assertEqual(os.path.exists(self.path(f"{name}.html")), has_page)
 
     def test_of_which_nothing_is_told_is_known_without_values(self):
         """Of all stored texts: what is said of one without reading it is what is said of it when it is read."""
         from errors_support import quick_report
-        from nll_page import command, nllc
+        from nllc_tools.base import nllc
+        from nllc_tools.commands import answers
+        from nllc_tools.judge import answer, silence
         self.enterContext(unittest.mock.patch.object(nllc, "run", quick_report))
         self.enterContext(unittest.mock.patch.object(nllc, "has_faults", lambda text: bool(quick_report(text).faults)))
         silent = 0
         for path, text in all_texts():
             with self.subTest(path=path):
                 asked = argparse.Namespace(facts=path, source=None, values=None)
-                said = command.answer(command.content_from(text, asked), False)
-                is_quiet = command.is_silent(text)[0]
+                said = answers.answer(answer.content_from(text, asked), False)
+                is_quiet = silence.is_silent(text)[0]
                 silent += is_quiet
-                self.assertTrue(not is_quiet or command.silent(text) == said)
+                self.assertTrue(not is_quiet or silence.silent(text) == said)
                 is_told = any(said[kind] for kind in ("faults", "loans", "moves", "differences", "further", "refused"))
                 self.assertEqual(is_quiet, not is_told and not said["needs"])
         self.assertGreater(silent, 80)

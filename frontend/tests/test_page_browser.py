@@ -16,14 +16,17 @@ sys.path.insert(0, os.path.join(os.path.dirname(os.path.abspath(__file__)), "bro
 import devtools  # noqa: E402 (the path stands above)
 from big_text import facts_text  # noqa: E402
 
-from nll_page import nllc  # noqa: E402
-from nll_page.chains import chain  # noqa: E402
-from nll_page.facts import read_facts  # noqa: E402
-from nll_page.faults import faults  # noqa: E402
-from nll_page.index import Row, index_page  # noqa: E402
-from nll_page.page import Content, Fault, page, template  # noqa: E402
-from nll_page.source import Source  # noqa: E402
-from nll_page.values import Values  # noqa: E402
+from nllc_tools.base import nllc  # noqa: E402
+from nllc_tools.judge.content import Content, Fault  # noqa: E402
+from nllc_tools.model.chains import chain  # noqa: E402
+from nllc_tools.model.faults import faults  # noqa: E402
+from nllc_tools.texts.facts.reader import read_facts  # noqa: E402
+from nllc_tools.model.values import Values  # noqa: E402
+from nllc_tools.texts.source import Source  # noqa: E402
+from nllc_tools.views.html.index import index_page  # noqa: E402
+from nllc_tools.views.html.index_rows import Row  # noqa: E402
+from nllc_tools.views.html.page import page  # noqa: E402
+from nllc_tools.views.html.template_files import template  # noqa: E402
 
 WIDTHS = (320, 414, 768, 1280, 1920)
 OVERFLOWING = """[...document.querySelectorAll("html, main, .lists, .fault, .step, .chosen, table")]
@@ -156,7 +159,7 @@ class Browser(unittest.TestCase):
     def test_rows_made_by_the_script_are_those_of_the_page(self):
         """A small text's page, made as if it were large, says the same when all is opened."""
         small = page(sample())
-        with mock.patch.multiple("nll_page.page", FEW_ROWS=0, MOST_ROWS=1):
+        with mock.patch.multiple("nllc_tools.views.html.page", FEW_ROWS=0, MOST_ROWS=1):
             as_large = page(sample())
         said = []
         for name, made in (("small.html", small), ("large.html", as_large)):

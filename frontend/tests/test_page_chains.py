@@ -6,9 +6,9 @@ import unittest
 
 from page_support import EXAMPLES, SAMPLES, file_bytes, random_text, reference, solved
 
-from nll_page import chains
-from nll_page.facts import ALL
-from nll_page.faults import faults
+from nllc_tools.model import chains
+from nllc_tools.model.facts import ALL
+from nllc_tools.model.faults import faults
 
 
 def cost(steps):

@@ -12,8 +12,9 @@ from unittest import mock
 
 from page_support import ROOT, SAMPLES, Folder, file_bytes, text
 
-from nll_page import command, nllc
-from nll_page.texts import main
+from nllc_tools.base import nllc
+from nllc_tools.commands import answers
+from nllc_tools.commands.page import main
 
 REFERENCE = os.path.join(ROOT, "check", "reference", "reference.py")
 
@@ -70,7 +71,7 @@ class Commands(Folder):
 
     def answered(self):
         with mock.patch.dict(os.environ, {"NLLC": self.path("nllc")}):
-            return command.answered(self.path("pick.facts"), file_bytes(SAMPLES, "pick.facts"), True)
+            return answers.answered(self.path("pick.facts"), file_bytes(SAMPLES, "pick.facts"), True)
 
     # The help has three ways out. The first is that of rustc 1.95, which refuses pick.rs with "consider adding the following bound:
     # `'b: 'a`"; the second is docs/FROM-RUST.md's "give both arguments one lifetime". With either one rustc takes pick.rs. The third

@@ -7,13 +7,15 @@ from html.parser import HTMLParser
 
 from page_support import random_text, solved, text
 
-from nll_page import nllc
-from nll_page.escaping import script_data, sentence, visible
-from nll_page.faults import faults
-from nll_page.chains import chain
-from nll_page.page import SCRIPTS, Content, Fault, fill, page, template
-from nll_page.source import Source, pieces
-from nll_page.words import Code, plain
+from nllc_tools.base import nllc
+from nllc_tools.base.sentences import Code, plain, visible
+from nllc_tools.judge.content import Content, Fault
+from nllc_tools.model.chains import chain
+from nllc_tools.model.faults import faults
+from nllc_tools.texts.source import Source, pieces
+from nllc_tools.views.html.escaping import script_data, sentence
+from nllc_tools.views.html.page import SCRIPTS, fill, page
+from nllc_tools.views.html.template_files import template
 
 NASTY = """</script><img src=x onerror=alert(1)> & "quoted" 'and' `so` {{data}} $& <!-- \\u003c --> ]]>"""
 

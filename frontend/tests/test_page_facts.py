@@ -4,10 +4,10 @@ import unittest
 
 from page_support import facts_of, file_bytes, random_text, reference, solved, text, SAMPLES
 
-from nll_page.facts import read_facts
-from nll_page.refusal import Refusal
-from nll_page.remarks import Remark
-from nll_page.values import read_values
+from nllc_tools.base.refusal import Refusal
+from nllc_tools.texts.facts.reader import read_facts
+from nllc_tools.model.remarks import Remark
+from nllc_tools.texts.facts.values import read_values
 
 
 class Facts(unittest.TestCase):

@@ -4,18 +4,22 @@ import re
 import unittest
 
 import page_support
-from nll_page import advice, index, labels, loans, telling
-from nll_page.chain_list import chain_list, more_part, stretches
-from nll_page.chains import chain
-from nll_page.difference_list import difference_list
-from nll_page.fault_list import fault_list
-from nll_page.loan_list import loan_list
-from nll_page.names import is_inner, lifetime_words
-from nll_page.page import Content, Fault, page, start, title_of
-from nll_page.point_list import code_part, source_list
-from nll_page.source import Source
-from nll_page.verdicts import verdict_of
-from nll_page.words import Code, plain
+from nllc_tools.base.sentences import Code, plain
+from nllc_tools.judge import labels
+from nllc_tools.judge.as_rustc import loan_faults
+from nllc_tools.judge.content import Content, Fault
+from nllc_tools.judge.findings import advice, finding, findings
+from nllc_tools.judge.names import is_inner, lifetime_words
+from nllc_tools.judge.verdicts import verdict_of
+from nllc_tools.model.chains import chain
+from nllc_tools.texts.source import Source
+from nllc_tools.views.html import index, index_rows
+from nllc_tools.views.html.page import page, start, title_of
+from nllc_tools.views.html.parts.chain_list import chain_list, more_part, stretches
+from nllc_tools.views.html.parts.difference_list import difference_list
+from nllc_tools.views.html.parts.fault_list import fault_list
+from nllc_tools.views.html.parts.loan_list import loan_list
+from nllc_tools.views.html.parts.point_list import code_part, source_list
 from quick_solver import quick_values
 
 # `let a = &mut v; touch(a); v = 1; use(a)`: a borrow, its copy into a, an assignment against it, a use.
@@ -40,7 +44,7 @@ def content_of(*lines, source=SOURCE, first=1):
     facts = page_support.facts_of(5, *lines)
     values = quick_values(facts)
     return Content(facts, values, [], "g.facts", Source("g.rs", first, source), "nllc", "unknown",
-                   list(loans.loan_faults(facts, values)))
+                   list(loan_faults.loan_faults(facts, values)))
 
 
 def with_fault(*lines, source=()):
@@ -117,7 +121,7 @@ class Labels(unittest.TestCase):
                           for one in its], [(3, "made", "moved here"), (5, "against", "used after the move")])
         made = difference_list(content)
         self.assertIn('<section class="faults" aria-label="Moves and assignments">', made)
-        rows = [("a.html", index.row_of(content, "grow"))]
+        rows = [("a.html", index_rows.row_of(content, "grow"))]
         self.assertIn("1 function with errors of moves<", index.whole_verdict(rows))
 
     def test_moves_of_a_text_without_errors_of_rustc(self):
@@ -134,12 +138,12 @@ class Labels(unittest.TestCase):
                                        "the caller has given it one"))):
             with self.subTest(gone=gone):
                 content = content_of(*LOAN[:-5], f"# gone 3, 5:5, {gone}")
-                told, = telling.all_of(content)
+                told, = findings.all_of(content)
                 self.assertEqual(tuple(plain(words) for words in (told.head, told.cause)), said)
                 self.assertIn('aria-label="Moves and assignments">', page(content))
 
     def test_a_remark_of_another_error_is_for_the_reader(self):
-        self.assertEqual(telling.all_of(content_of(*LOAN[:-5], "# gone 3, 5:5, E0596 of a, by 1 2 3: 1")), [])
+        self.assertEqual(findings.all_of(content_of(*LOAN[:-5], "# gone 3, 5:5, E0596 of a, by 1 2 3: 1")), [])
 
     def test_words_that_are_marked(self):
         made = code_part(Source("g.rs", 1, SOURCE), SOURCE[2], labels.labels_of(content_of(*LOAN))[3])
@@ -199,7 +203,7 @@ class Advice(unittest.TestCase):
 
 class More(unittest.TestCase):
     def test_what_rustc_says_beyond_the_error(self):
-        said = telling.Telling(None, "", [], [], None, [
+        said = finding.Telling(None, "", [], [], None, [
             ["help: ", "consider ", Code("'a")], ["invariant: ", "behind ", Code("&mut")], ["line 3 with names: ", Code("x")]])
         self.assertEqual(re.findall(r'<p class="more">(.*?)</p>', more_part(said)),
                          ["<b>rustc’s help</b>: consider <code>&#x27;a</code>.",
@@ -219,16 +223,16 @@ class More(unittest.TestCase):
 
 class Heads(unittest.TestCase):
     def test_the_line_of_the_fn(self):
-        self.assertEqual(index.line_of(content_of(*LOAN)), 2)
-        self.assertEqual(index.line_of(content_of(*["# function: m::grow::{closure#0}", *LOAN[1:]])), 3)
-        self.assertIsNone(index.line_of(content_of(*LOAN[1:])))
+        self.assertEqual(index_rows.line_of(content_of(*LOAN)), 2)
+        self.assertEqual(index_rows.line_of(content_of(*["# function: m::grow::{closure#0}", *LOAN[1:]])), 3)
+        self.assertIsNone(index_rows.line_of(content_of(*LOAN[1:])))
 
     def test_what_a_row_says(self):
-        row = index.row_of(content_of(*LOAN), "grow")
+        row = index_rows.row_of(content_of(*LOAN), "grow")
         self.assertEqual((row.line, row.kind, row.said, row.told[0][0]), (2, "faulty", "1 loan error", 4))
 
     def test_rows_without_lines_and_with_equal_names(self):
-        row = index.Row("last", "a.facts", None, 1, 1, 0, None)
+        row = index_rows.Row("last", "a.facts", None, 1, 1, 0, None)
         rows = [("a.html", row), ("b.html", row._replace(source="b.facts")), ("c.html", row._replace(name="c", source="c.facts"))]
         made = index.index_page(rows, "{{lacks}}{{rows}}", "")
         self.assertTrue(made.startswith("no-line no-rustc no-said<tbody>"))
@@ -247,7 +251,7 @@ class Heads(unittest.TestCase):
     def test_points_of_a_mir_text_have_their_names(self):
         content = content_of(*LOAN)
         content.facts.point_names.update({point: f"bb0/{point}" for point in range(5)})
-        made = page(content._replace(loans=list(loans.loan_faults(content.facts, content.values))))
+        made = page(content._replace(loans=list(loan_faults.loan_faults(content.facts, content.values))))
         self.assertIn("<title>point bb0/2: v = const 1</title>", made)
         self.assertIn('"names":["bb0/0","bb0/1","bb0/2","bb0/3","bb0/4"]', made)
         self.assertRegex(made, r'class="point" data-p="2" tabindex="-1">bb0/2<')

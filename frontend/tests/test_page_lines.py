@@ -5,9 +5,9 @@ import unittest
 
 from page_support import SAMPLES, facts_of, file_bytes, random_text
 
-from nll_page import drawing, layout
-from nll_page.facts import read_facts
-from nll_page.lines import rows, straight_lines, title
+from nllc_tools.texts.facts.reader import read_facts
+from nllc_tools.views.html.graph import drawing, layout, order
+from nllc_tools.views.html.graph.lines import rows, straight_lines, title
 
 
 def lines_of(points, *edges):
@@ -127,7 +127,7 @@ class Layers(unittest.TestCase):
             draw = random.Random(seed)
             numbers = [draw.randrange(8) for _ in range(draw.randint(0, 12))]
             pairs = sum(a > b for at, b in enumerate(numbers) for a in numbers[:at])
-            self.assertEqual(layout.inversions(numbers, 8), pairs)
+            self.assertEqual(order.inversions(numbers, 8), pairs)
 
     def test_what_hangs_together_stands_together(self):
         shape, _ = self.drawn(5, [(0, 2), (1, 3), (3, 1)])
@@ -140,10 +140,10 @@ class Layers(unittest.TestCase):
             boxes, edges = self.random_graph(seed)
             shape = layout.shape_of(boxes, edges)
             count = 1 + max(number for layer in shape.layers for number in layer)
-            _, below = layout.neighbours(shape.paths, count)
+            _, below = order.neighbours(shape.paths, count)
             layers = [sorted(layer) for layer in shape.layers]
-            first = layout.crossings(layout.by_first_visit(layers, below, count), below, count)
-            last = layout.crossings(shape.layers, below, count)
+            first = order.crossings(order.by_first_visit(layers, below, count), below, count)
+            last = order.crossings(shape.layers, below, count)
             self.assertLessEqual(last, first)
             before, after = before + first, after + last
         self.assertLess(after, 0.8 * before)
@@ -151,8 +151,8 @@ class Layers(unittest.TestCase):
     def test_no_crossing_where_none_is_needed(self):
         edges = [(0, 1), (0, 2), (0, 3), (1, 6), (2, 5), (3, 4), (4, 7), (5, 7), (6, 7)]
         shape, _ = self.drawn(8, edges)
-        _, below = layout.neighbours(shape.paths, 8)
-        self.assertEqual(layout.crossings(shape.layers, below, 8), 0)
+        _, below = order.neighbours(shape.paths, 8)
+        self.assertEqual(order.crossings(shape.layers, below, 8), 0)
 
 
 class Drawings(unittest.TestCase):

@@ -4,7 +4,7 @@ import unittest
 
 from page_support import facts_of
 
-from nll_page.names import function_words, region_text
+from nllc_tools.judge.names import function_words, region_text
 
 
 def named(name, *remarks):

@@ -5,14 +5,14 @@ import unittest
 
 from page_support import SAMPLES, facts_of, file_bytes, solved, text
 
-from nll_page import nllc
-from nll_page.chain_list import told
-from nll_page.chains import chain
-from nll_page.fault_list import fault_list
-from nll_page.page import Content, Fault
-from nll_page.point_list import point_list, said_at, source_list, tabs
-from nll_page.region_list import barcode, region_list
-from nll_page.source import Source
+from nllc_tools.base import nllc
+from nllc_tools.judge.content import Content, Fault
+from nllc_tools.model.chains import chain
+from nllc_tools.texts.source import Source
+from nllc_tools.views.html.parts.chain_list import told
+from nllc_tools.views.html.parts.fault_list import fault_list
+from nllc_tools.views.html.parts.point_list import point_list, said_at, source_list, tabs
+from nllc_tools.views.html.parts.region_list import barcode, region_list
 
 
 def content(facts, values, faults=(), source=None):

@@ -5,11 +5,11 @@ import unittest
 
 from page_support import SAMPLES, facts_of, file_bytes, random_text, solved
 
-from nll_page import region_graph as graph
+from nllc_tools.views.html.graph import region_graph
 
 
 def groups(facts):
-    return sorted(tuple(box.regions) for box in graph.boxes_of(graph.pairs_of(facts)))
+    return sorted(tuple(box.regions) for box in region_graph.boxes_of(region_graph.pairs_of(facts)))
 
 
 def slow_groups(facts):
@@ -36,7 +36,7 @@ class RegionGraph(unittest.TestCase):
 
     def test_where_it_arises(self):
         facts, _ = solved(file_bytes(SAMPLES, "pick.facts"))
-        made = graph.region_graph(facts)
+        made = region_graph.region_graph(facts)
         self.assertEqual(re.findall(r'text-anchor="middle">([^<]*)<', made), ["line 7"])
         self.assertIn("<title>&#x27;b must outlive &#x27;best: line 7</title>", made)
         self.assertEqual(re.findall(r'class="asked"[^>]*>([^<]*)<', made),
@@ -46,18 +46,18 @@ class RegionGraph(unittest.TestCase):
         """The words in full name each point or line, also where the short ones don't."""
         facts = facts_of(9, "region 'a", "region 'b", *(f"next {p} {p + 1}" for p in range(8)),
                          *(f"constraint 'a 'b {p}" for p in range(1, 6)))
-        short, full = graph.place_words(facts, 1, 2, [1, 2, 3, 4, 5])
+        short, full = region_graph.place_words(facts, 1, 2, [1, 2, 3, 4, 5])
         self.assertEqual(short, "point 1, point 2, point 3 +2")
         self.assertEqual(full, "point 1, point 2, point 3, point 4, point 5")
-        self.assertIn(f"must outlive &#x27;b: {full}", graph.region_graph(facts))
-        self.assertEqual(graph.place_words(facts, 1, 2, list(range(9)))[0], "everywhere")
+        self.assertIn(f"must outlive &#x27;b: {full}", region_graph.region_graph(facts))
+        self.assertEqual(region_graph.place_words(facts, 1, 2, list(range(9)))[0], "everywhere")
 
     def test_no_picture(self):
-        self.assertIn("No region must outlive", graph.region_graph(facts_of(1, "region 'a", "constraint 'a 'a 0")))
-        count = graph.MOST_BOXES + 1
+        self.assertIn("No region must outlive", region_graph.region_graph(facts_of(1, "region 'a", "constraint 'a 'a 0")))
+        count = region_graph.MOST_BOXES + 1
         many = facts_of(1, *(f"region 'r{n}" for n in range(count)),
                         *(f"constraint 'r{n} 'static 0" for n in range(count)))
-        self.assertIn("too many for a picture", graph.region_graph(many))
+        self.assertIn("too many for a picture", region_graph.region_graph(many))
 
 
 if __name__ == "__main__":

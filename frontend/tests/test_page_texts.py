@@ -9,12 +9,12 @@ from unittest import mock
 
 from page_support import EXAMPLES, ROOT, SAMPLES, Folder, file_bytes, reference, text
 
-from nll_page import index
-from nll_page.folder import write_index
-from nll_page.mir_text import MirText
-from nll_page.texts import main
-from nll_page.values import read_values
-from nll_schedule.problem import problem_in
+from nllc_tools.commands.page import main
+from nllc_tools.texts.facts.values import read_values
+from nllc_tools.texts.mir.problem import problem_in
+from nllc_tools.texts.mir.remarks import MirText
+from nllc_tools.views.html import index, index_rows
+from nllc_tools.views.html.folder import write_index
 from schedule_support import printed, schedule
 
 SLOW = os.path.join(ROOT, "check", "reference", "reference_states.py")
@@ -116,7 +116,7 @@ class Index(Command):
         made = self.page("index.html")
         self.assertEqual(re.findall(r'<a href="\./([^"]*)"', made),
                          ["drop.mir.html", "pick.html", "pick.html#line=7"])
-        rows = dict(index.rows_in(self.path("pages")))
+        rows = dict(index_rows.rows_in(self.path("pages")))
         said = [7, "`'b` must outlive `'a`, but the signature doesn't declare it"]
         self.assertEqual(rows["pick.html"], ("pick", self.path("pick.rs"), 4, 9, 4, 1, None, "faulty", "1 fault",
                                              None, [said], True))
@@ -141,25 +141,25 @@ class Index(Command):
 
     def test_text_stays_text(self):
         nasty = '"><script>alert(1)</script>&'
-        row = index.Row(nasty, nasty, 1, 2, 3, 0, 1, "faulty", nasty, nasty, [[3, nasty]], True)
-        self.write("a b%.html", index.row_mark(row).encode())
-        self.assertEqual(index.row_in(self.path("a b%.html")), row)
-        made = index.index_page(index.rows_in(self.folder), "{{title}}{{rows}}{{verdict}}", "")
+        row = index_rows.Row(nasty, nasty, 1, 2, 3, 0, 1, "faulty", nasty, nasty, [[3, nasty]], True)
+        self.write("a b%.html", index_rows.row_mark(row).encode())
+        self.assertEqual(index_rows.row_in(self.path("a b%.html")), row)
+        made = index.index_page(index_rows.rows_in(self.folder), "{{title}}{{rows}}{{verdict}}", "")
         self.assertNotIn("<script", made)
         self.assertIn('href="./a%20b%25.html"', made)
         self.assertIn("1 loan error<", made)
 
     def test_pages_that_are_named_alone(self):
         for name in ("old.html", "new.html"):
-            self.write(name, index.row_mark(index.Row(name, "x", 1, 1, 1, 0, None)).encode())
+            self.write(name, index_rows.row_mark(index_rows.Row(name, "x", 1, 1, 1, 0, None)).encode())
         write_index(self.folder, ["new.html"])
         with open(self.path("index.html"), encoding="utf-8") as file:
             self.assertEqual(re.findall(r'href="\./([^"]*)"', file.read()), ["new.html"])
 
     def test_other_files(self):
         self.write("other.html", b"<p>no page</p>")
-        self.write("index.html", index.row_mark(index.Row("x", "x", 1, 1, 1, 0, None)).encode())
-        self.assertEqual(index.rows_in(self.folder), [])
+        self.write("index.html", index_rows.row_mark(index_rows.Row("x", "x", 1, 1, 1, 0, None)).encode())
+        self.assertEqual(index_rows.rows_in(self.folder), [])
 
 
 if __name__ == "__main__":

@@ -11,7 +11,7 @@ from unittest import mock
 from page_support import EXAMPLES, file_bytes, text
 from schedule_support import REFERENCE, example, schedule
 
-from nll_schedule.command import main, named_owners
+from nllc_tools.commands.schedule import main, named_owners
 
 
 class Commands(unittest.TestCase):

@@ -9,7 +9,7 @@ import unittest
 from page_support import ROOT
 from schedule_support import SCHEDULES, answers, example, example_content, printed
 
-from nll_schedule.telling import words_of
+from nllc_tools.views.schedule.event_words import words_of
 
 # Of each event the answer and the balance after it.
 WANTED = {

@@ -7,13 +7,14 @@ from html.parser import HTMLParser
 from page_support import text
 from schedule_support import SCHEDULES, content_of, example_content, schedule
 
-from nll_page.words import plain
-from nll_schedule import reasons, telling
-from nll_schedule.event_part import event_list, event_part
-from nll_schedule.page import page
-from nll_schedule.reasons import Asked, Reading
-from nll_schedule.states import Growth, under_way
-from nll_schedule.wait_part import wait_part
+from nllc_tools.base.sentences import plain
+from nllc_tools.texts import schedule_states
+from nllc_tools.texts.schedule_states import Growth, under_way
+from nllc_tools.views.schedule import event_words, reasons
+from nllc_tools.views.schedule.event_part import event_list, event_part
+from nllc_tools.views.schedule.page import page
+from nllc_tools.views.schedule.reasons import Asked, Reading
+from nllc_tools.views.schedule.wait_part import wait_part
 
 # Two owners: owner 0 has 'static and '2, owner 1 has '1, which reads '2.
 ONE_WAY = text(2, "region '1", "region '2", "next 0 1", "return 1", "base '2 0", "constraint '1 '2 0")
@@ -22,7 +23,7 @@ LOADED = ["load 0", "owe 0", "clear 0", "load 1", "owe 1", "clear 1"]
 
 
 def sentence(content, number):
-    return plain(telling.told(content.facts, content.run, number))
+    return plain(event_words.told(content.facts, content.run, number))
 
 
 class Sentences(unittest.TestCase):
@@ -72,7 +73,7 @@ class Sentences(unittest.TestCase):
 
     def test_what_the_balance_counts(self):
         content = content_of(ONE_WAY, schedule(*LOADED[:2], "push 0 1"), 2)
-        counted = [[plain(telling.way_words(content.facts, *way)) for way in under_way(state)]
+        counted = [[plain(event_words.way_words(content.facts, *way)) for way in under_way(state)]
                    for state in content.run.states]
         self.assertEqual(counted, [
             ["the load of owner 0", "the load of owner 1"],
@@ -120,7 +121,7 @@ class Reasons(unittest.TestCase):
     def test_a_reason_that_is_missing(self):
         content = example_content("each_other")
         seat = content.run.states[6].seats[1]
-        with self.assertRaises(reasons.Broken):
+        with self.assertRaises(schedule_states.Broken):
             reasons.reasons(content.facts, seat, Growth(1, 1, 2))
 
 

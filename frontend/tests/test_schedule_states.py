@@ -6,10 +6,10 @@ import unittest
 from page_support import text
 from schedule_support import answers, example, example_content, printed, schedule
 
-from nll_page.refusal import Refusal
-from nll_schedule import spans
-from nll_schedule.spans import Span
-from nll_schedule.states import Event, Growth, read_run, under_way
+from nllc_tools.base.refusal import Refusal
+from nllc_tools.texts.schedule_states import Event, Growth, read_run, under_way
+from nllc_tools.views.schedule import spans
+from nllc_tools.views.schedule.spans import Span
 
 TWO = text(2, "region '1", "region '2", "next 0 1", "return 1", "base '1 0", "base '2 1",
            "constraint '2 '1 0", "constraint '1 '2 0")

@@ -11,8 +11,8 @@ import unittest
 ROOT = os.path.dirname(os.path.dirname(os.path.dirname(os.path.abspath(__file__))))
 sys.path.insert(0, os.path.join(ROOT, "frontend"))
 
-from nll_texts.answering import advice, read_words  # noqa: E402 (they stand in frontend/)
-from nll_texts.explain import refused  # noqa: E402
+from nllc_tools.commands.explain import refused  # noqa: E402 (they stand in frontend/)
+from nllc_tools.commands.several import advice, read_words  # noqa: E402
 
 RUN = [sys.executable, os.path.join(ROOT, "frontend", "run")]
 HEAD = "nll-facts 1\npoints 3\n"

@@ -22,10 +22,10 @@ sys.path[:0] = [HERE, os.path.join(ROOT, "frontend")]
 from big_text import facts_text  # noqa: E402 (the paths stand above)
 from devtools import Browser  # noqa: E402
 
-from nll_page import nllc  # noqa: E402
-from nll_page.texts import main as make_page  # noqa: E402
-from nll_page.facts import read_facts  # noqa: E402
-from nll_page.values import read_values  # noqa: E402
+from nllc_tools.base import nllc  # noqa: E402
+from nllc_tools.commands.page import main as make_page  # noqa: E402
+from nllc_tools.texts.facts.reader import read_facts  # noqa: E402
+from nllc_tools.texts.facts.values import read_values  # noqa: E402
 
 SLOW = 250      # milliseconds for one choice are too many
 LEAST = 4.5     # the contrast that text must have

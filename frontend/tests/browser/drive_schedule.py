@@ -21,7 +21,7 @@ sys.path[:0] = [HERE, os.path.dirname(HERE)]
 from devtools import Browser  # noqa: E402 (the paths stand above)
 from schedule_support import EXAMPLES, REFERENCE, SCHEDULES, example_content  # noqa: E402
 
-from nll_schedule.command import main as make_page  # noqa: E402
+from nllc_tools.commands.schedule import main as make_page  # noqa: E402
 
 LEAST = 4.5     # the contrast that text must have
 WIDTHS = (1920, 1280, 1000, 768, 480, 320)
@@ -78,7 +78,7 @@ class Drive:
         return self.texts(f"{place} .growth:not(.gone) code")
 
     def named(self, growths):
-        from nll_schedule.telling import growth_name
+        from nllc_tools.views.schedule.event_words import growth_name
         return [growth_name(self.content.facts, one) for one in growths]
 
     def look(self, number):

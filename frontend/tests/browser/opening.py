@@ -18,7 +18,7 @@ sys.path[:0] = [HERE, TESTS, os.path.dirname(TESTS)]
 from devtools import Browser  # noqa: E402 (the paths stand above)
 from test_page_browser import large  # noqa: E402
 
-from nll_page.page import page  # noqa: E402
+from nllc_tools.views.html.page import page  # noqa: E402
 
 TIMES = 5
 

@@ -24,7 +24,7 @@ sys.path[:0] = [HERE, os.path.join(ROOT, "frontend")]
 
 from devtools import Browser  # noqa: E402 (the paths stand above)
 
-from nll_page.facts import read_facts  # noqa: E402
+from nllc_tools.texts.facts.reader import read_facts  # noqa: E402
 
 SIZE = (1440, 860)
 

@@ -1,0 +1,1 @@
+"""The commands of nllc.sh: their words, and what they do."""

@@ -1,0 +1,45 @@
+"""The command `nllc.sh json`: a text's values and faults for programs, as docs/answer.schema.json has them."""
+
+import json
+import math
+
+from nllc_tools.base.command_line import Parser, called
+from nllc_tools.base.refusal import Refusal
+from nllc_tools.base.sentences import visible
+from nllc_tools.base.streams import guarded, tell
+from nllc_tools.commands.page import read
+from nllc_tools.commands.texts import content_of
+from nllc_tools.views.json.answer import answer
+
+ABOUT = """\
+Prints a line of JSON for each text, a facts text or a MIR text: the values of its regions, points by runs, with names,
+and each fault with its chain of constraints. docs/answer.schema.json describes the line."""
+
+STATUSES = """\
+status 0: no text has a fault; 1: one has; 2: the arguments, a file or a text was refused; 3: nllc gave no answer, or standard
+output can't be written. The status is the highest of all texts"""
+
+
+def main(arguments):
+    """Runs the command on these words; its status."""
+    return guarded("json", lambda: run(words_of(arguments)))
+
+
+def words_of(arguments):
+    parser = Parser("json", ABOUT, STATUSES)
+    parser.add_argument("texts", metavar="FILE", nargs="+", help="a facts text or a MIR text; - is standard input")
+    return parser.parse_args(arguments)
+
+
+def run(asked):
+    return max(map(answered, asked.texts))
+
+
+def answered(path):
+    """Prints the line of a text, or why there is none, and goes on; the status is that of the text."""
+    try:
+        content = content_of(*read(path), most=math.inf)
+    except Refusal as refusal:
+        return tell(f"{called('json')}: {visible(str(refusal))}", refusal.status)
+    print(json.dumps(answer(content), ensure_ascii=False))
+    return 1 if content.faults else 0

@@ -1,0 +1,46 @@
+"""What `nllc` says of a function, and what rustc says, as far as the text has it."""
+
+from typing import NamedTuple, Optional
+
+from nllc_tools.base import sentences
+from nllc_tools.judge.differences import differences, refused
+
+
+class Verdict(NamedTuple):
+    """A badge's kind, its words, and rustc's answer in short; None where the text doesn't have it."""
+
+    kind: str
+    words: str
+    rustc: Optional[str]
+
+
+def verdict_of(content):
+    """The verdict of a content: `nllc` counts, with rustc's errors beside it."""
+    moves = len(content.facts.remarks.beside.gone)
+    said = counted(len(content.faults), len(content.loans), moves)
+    is_refused = bool(content.faults or content.loans or moves)
+    other, unjudged = differences(content), refused(content)
+    kind = "faulty" if is_refused else "differs" if other or unjudged else "fine"
+    if not is_refused and other:
+        said = "rustc refuses, nllc doesn’t"
+    elif not is_refused and unjudged:
+        said = "rustc refuses for a reason that nllc doesn’t check"
+    if content.everywhere is not None:
+        said += f" · {counted(len(content.everywhere.faults), len(content.everywhere.loans))} at all points"
+    return Verdict(kind, said, answer_of_rustc(content))
+
+
+def counted(faults, loans, moves=0):
+    """How many faults, loan errors, and errors of moves and assignments there are, in words."""
+    counts = [sentences.plural(count, noun)
+              for count, noun in ((faults, "fault"), (loans, "loan error"), (moves, "move error")) if count]
+    return ", ".join(counts) or "no fault"
+
+
+def answer_of_rustc(content):
+    """The codes of rustc's errors, each once; an error without a code is of lifetimes."""
+    beside = content.facts.remarks.beside
+    if beside.count is None:
+        return None
+    codes = [error.code() or "lifetime error" for error in beside.rustc]
+    return ", ".join(dict.fromkeys(codes)) or "no such error"

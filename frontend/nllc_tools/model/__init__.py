@@ -1,0 +1,1 @@
+"""A function: its points, regions, loans, moves, constraints and faults."""

@@ -1,0 +1,154 @@
+"""How rustc's errors of moves and assignments come about: by its own tables of what is moved, assigned and accessed.
+
+E0382: a place is accessed that may be moved out of, E0381: that may have no value yet; E0384: a variable that isn't
+`mut` gets a value where it may have one. Only what rustc says, too, is told.
+"""
+
+import re
+from collections import deque
+from typing import Container, Iterable, Iterator, NamedTuple, Optional
+
+from nllc_tools.model.liveness import neighbours, table_of
+from nllc_tools.rustc.errors import Error
+from nllc_tools.rustc.mir.body import Body
+from nllc_tools.rustc.mir.captures import MADE, home_of
+from nllc_tools.rustc.mir.spans import Span
+from nllc_tools.rustc.tables import Location, Spot, Tables
+
+MOVES = ("E0381", "E0382", "E0384")
+NAMED = re.compile(r"`(\w+)[^`]*`")
+
+
+class Gone(NamedTuple):
+    """An access: where, rustc's code, the variable, the statements since which it is wrong, a walk from the first."""
+
+    location: Location
+    span: Optional[Span]
+    code: str
+    variable: int
+    since: list[Location]
+    walk: list[Location]
+
+
+class Moved:
+    """The paths of a function (a variable, its fields, their fields): where they are moved, assigned, accessed."""
+
+    def __init__(self, tables: Tables, body: Body):
+        self.body = body
+        self.before, _ = neighbours(tables)
+        self.variable = dict(tables.path_is_var)
+        self.parent = dict(tables.child_path)
+        self.children = table_of((parent, child) for child, parent in tables.child_path)
+        self.moved = table_of(tables.path_moved_at_base)
+        self.assigned = table_of(tables.path_assigned_at_base)
+        self.accessed = tables.path_accessed_at_base
+
+    def of(self, errors: Iterable[Error]) -> Iterator[tuple[Error, Gone]]:
+        """Each error of moves and assignments of which the tables have it, with that.
+
+        Of several errors at one place, which a macro has, each is another statement's.
+        """
+        taken: set[Location] = set()
+        for error in errors:
+            found = self.of_one(error, taken) if error.code in MOVES else None
+            if found:
+                taken.add(found.location)
+                yield error, found
+
+    def of_one(self, error: Error, taken: Container[Location] = ()) -> Optional[Gone]:
+        table = [(path, spot) for path in self.assigned for spot in self.assigned[path]] \
+            if error.code == "E0384" else self.accessed
+        rows = sorted(table, key=lambda row: row[1])
+        there = [row for row in rows if self.begins_at(row[1].location, error)]
+        for path, spot in there or [row for row in rows if self.is_of_macro(*row, error)]:
+            found = self.assigned_before(path, spot) if error.code == "E0384" else self.gone_at(path, spot)
+            if found and found.code == error.code and found.location not in taken:
+                return found
+        return None
+
+    def is_of_macro(self, path: int, spot: Spot, error: Error) -> bool:
+        """Whether a macro of another file has the statement, and the variable is the one that the error names."""
+        span, local = self.body.statements[spot.location].span, self.body.locals.get(self.root_of(path))
+        named = NAMED.search(error.message)
+        return span is not None and span.file != error.places[0][0] \
+            and local is not None and local.name is not None and named is not None and named[1] == local.name
+
+    def root_of(self, path: int) -> int:
+        """The variable of which a path is a part."""
+        while path in self.parent:
+            path = self.parent[path]
+        return self.variable.get(path, 0)
+
+    def begins_at(self, location: Location, error: Error) -> bool:
+        """Whether a statement, or the closure that it makes, begins where the error is."""
+        text, span, _ = self.body.statements[location]
+        if span is None or (span.file, span.first) > (error.places[0][0], error.line):
+            return False
+        made = MADE.search(text) or self.made_of(text)
+        begins = (span, home_of(made[1], span)) if made else (span,)
+        return any(one is not None and (one.file, one.first, one.column) == (error.places[0][0], error.line, error.column)
+                   for one in begins)
+
+    def made_of(self, text: str) -> Optional[re.Match[str]]:
+        """The closure for which a statement borrows, if it does."""
+        target = text.split(" = &")[0] if " = &" in text else None
+        made = (MADE.search(said.text) for said in self.body.statements.values() if target and f"move {target}" in said.text)
+        return next(filter(None, made), None)
+
+    def gone_at(self, path: int, spot: Spot) -> Optional[Gone]:
+        """The moves, or the missing value, by which an access to a path is wrong."""
+        for part in self.with_parts(path):
+            came_by = self.back(spot, {one for each in self.with_ancestors(part) for one in self.assigned[each]})
+            moved = [one for one in came_by if one in self.moves_of(part)]
+            real = [one for one in moved if self.is_move(one)]
+            if moved:
+                return self.gone(path, spot, "E0382" if real else "E0381", real, came_by, moved)
+        return None
+
+    def assigned_before(self, path: int, spot: Spot) -> Optional[Gone]:
+        """The earlier assignments of a variable that isn't `mut`."""
+        local = self.body.locals.get(self.variable.get(path, -1))
+        came_by = self.back(spot, set())
+        earlier = [one for one in came_by if one in self.assigned[path]]
+        if local is None or local.is_mutable or not earlier:
+            return None
+        return self.gone(path, spot, "E0384", earlier, came_by, earlier)
+
+    def gone(self, path: int, spot: Spot, code: str, since: list[Spot], came_by: dict[Spot, Optional[Spot]],
+             nearest: list[Spot]) -> Gone:
+        walk: list[Location] = []
+        at: Optional[Spot] = nearest[0]
+        while at is not None:
+            walk.append(at.location)
+            at = came_by[at]
+        return Gone(spot.location, self.body.statements[spot.location].span, code, self.root_of(path),
+                    list(dict.fromkeys(one.location for one in since)), list(dict.fromkeys(walk)))
+
+    def back(self, spot: Spot, stops: set[Spot]) -> dict[Spot, Optional[Spot]]:
+        """The spots from which a walk leads to this one past no stop, nearest first, each with the next one."""
+        came_by: dict[Spot, Optional[Spot]] = {}
+        todo = deque((before, spot) for before in self.before[spot])
+        while todo:
+            here, following = todo.popleft()
+            if here not in came_by and here not in stops:
+                came_by[here] = following if following != spot else None
+                todo.extend((before, here) for before in self.before[here])
+        return came_by
+
+    def is_move(self, spot: Spot) -> bool:
+        return spot.is_mid and not self.body.statements[spot.location].text.startswith("StorageDead")
+
+    def moves_of(self, part: int) -> set[Spot]:
+        return {one for each in self.with_ancestors(part) for one in self.moved[each]}
+
+    def with_ancestors(self, path: int) -> Iterator[int]:
+        yield path
+        while path in self.parent:
+            path = self.parent[path]
+            yield path
+
+    def with_parts(self, path: int) -> Iterator[int]:
+        """The path, and all that are parts of it."""
+        yield path
+        for child in self.children[path]:
+            yield from self.with_parts(child)

@@ -1,0 +1,126 @@
+"""What the lines of functions, and what rustc asks of them, say of structs and enums."""
+
+from typing import Iterator
+
+from nllc_tools.model.types.definitions import (BACK, BOTH, FORWARD, Definitions, Evidence, Key, behind, made_type, own_signs,
+                                                times)
+from nllc_tools.rustc.mir.function import Function, Paths, places_of
+from nllc_tools.rustc.mir.statements import Assign, Call, Constant, Line, Place
+from nllc_tools.rustc.mir.types import PLAIN, STATIC, Region, Type
+
+
+def gather(function: Function) -> Evidence:
+    """What the lines of one function say."""
+    return Gatherer(function).evidence
+
+
+class Gatherer:
+    """Goes over the lines of a function."""
+
+    def __init__(self, function: Function):
+        self.function = function
+        self.evidence = Evidence()
+        for location, line in function.lines.items():
+            if location in function.asked or any(place.steps for place in places_of(line)):
+                self.line(function.paths(location), line)
+        for local, regions in function.drops.items():
+            self.dropped(function.locals[local], regions)
+
+    def dropped(self, type: Type, regions: set[int]) -> None:
+        """A drop goes through tuples and closures; of others it looks at regions."""
+        if type.form in ("tuple", "slice", "closure"):
+            parts = type.parts[0].parts if type.form == "closure" else type.parts
+            for part in parts:
+                self.dropped(part, regions)
+        elif type.form in ("adt", "alias", "dyn", "coroutine"):
+            own = {number for number, one in enumerate(type.regions()) if one in regions}
+            self.evidence.drops.setdefault(type.shape(), set()).update(own)
+
+    def line(self, paths: Paths, line: Line) -> None:
+        types = [self.walk(paths, place) for place in places_of(line)]
+        if isinstance(line, Assign):
+            self.assigned(paths, line, types)
+        elif isinstance(line, Call):
+            self.called(paths, line, types)
+
+    def walk(self, paths: Paths, place: Place) -> Type:
+        """The type of a place by what rustc writes of its steps."""
+        type = self.function.locals[place.local]
+        written = {one for step in place.steps if step.type is not None for one in step.type.regions()}
+        for step in place.steps:
+            if step.kind == "field" and type.form not in ("tuple", "closure", "coroutine"):
+                self.field(paths, type, step.variant, step.field, step.type, written)
+            if step.type is not None:
+                type = step.type
+            else:
+                type = behind(Definitions(Evidence()), type, step) or PLAIN
+        return type
+
+    def field(self, paths: Paths, base: Type, variant: str, number: int, type: Type, written: set[int]) -> None:
+        regions = base.regions()
+        found = []
+        for one in type.regions():
+            back = paths.reached(one, written)
+            near = {n for n, other in enumerate(regions) if other in back or one in paths.reached(other, written)}
+            if one in paths.reached(STATIC, written) or STATIC in back:
+                near.add(-1)
+            found.append(frozenset(near))
+        self.evidence.add_field((base.shape(), variant, number, type.shape()), found)
+
+    def assigned(self, paths: Paths, line: Assign, types: list[Type]) -> None:
+        target, *others = types
+        if line.kind == "use" and others:
+            self.meet(paths, others[0], target)
+        elif line.kind == "make" and line.type is not None:
+            self.made(paths, line, line.type, target)
+
+    def made(self, paths: Paths, line: Assign, written: Type, target: Type) -> None:
+        made = made_type(written, target)
+        if made is None:
+            return
+        type, variant = made
+        self.meet(paths, type, target)
+        regions = type.regions()
+        for number, operand in enumerate(line.operands):
+            if isinstance(operand, Constant):
+                continue
+            own = self.walk(paths, operand)
+            found = []
+            for one in own.regions():
+                seen = paths.reached(one)
+                found.append(frozenset(
+                    {n for n, other in enumerate(regions) if other in seen or one in paths.reached(other)}
+                    | ({-1} if STATIC in seen else set())))
+            self.evidence.add_field((type.shape(), variant, number, own.shape()), found)
+
+    def called(self, paths: Paths, line: Call, types: list[Type]) -> None:
+        """The types of what goes in and comes out, where the signature has them with regions that it names."""
+        signature = line.function.type if isinstance(line.function, Constant) else None
+        if signature is None or signature.form != "function":
+            return
+        *inputs, output = signature.parts[1].parts
+        self.meet(paths, output, types[0])
+        places = iter(types[1:])
+        for operand, input in zip(line.operands, inputs):
+            if not isinstance(operand, Constant):
+                self.meet(paths, next(places), input)
+
+    def meet(self, paths: Paths, less: Type, more: Type) -> None:
+        """One type is to be a subtype of another: which ways are asked behind which parameters."""
+        if not less.has_shape_of(more):
+            return
+        for (a, outer, keys), (b, _, _) in zip(behind_keys(less), behind_keys(more)):
+            if not keys or outer == "=" or a == b or STATIC in (a, b) or isinstance(a, str) or isinstance(b, str):
+                continue
+            ways = FORWARD * paths.leads(a, b) | BACK * paths.leads(b, a)
+            self.evidence.signs[outer, keys] = self.evidence.signs.get((outer, keys), BOTH) & ways
+
+
+def behind_keys(type: Type, outer: str = "+", keys: tuple[Key, ...] = ()) -> Iterator[tuple[Region, str, tuple[Key, ...]]]:
+    """The regions of a type, with the signs and the parameters behind which each stands."""
+    for number, (part, sign) in enumerate(zip(type.parts, own_signs(type))):
+        own = (outer if sign is None else times(outer, sign), keys if sign is not None else (*keys, (type.name, number)))
+        if isinstance(part, Type):
+            yield from behind_keys(part, *own)
+        else:
+            yield part, *own

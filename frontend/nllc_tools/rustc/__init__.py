@@ -1,0 +1,1 @@
+"""Runs the user's own rustc and Cargo, and reads what they write."""

@@ -1,0 +1,1 @@
+"""Reads rustc's MIR."""

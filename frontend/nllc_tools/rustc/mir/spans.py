@@ -1,0 +1,35 @@
+"""Places in the source, as rustc writes them."""
+
+import re
+from functools import lru_cache
+from typing import NamedTuple, Optional
+
+SPAN = re.compile(r"(?P<file>.+):(?P<line>\d+):(?P<column>\d+): (?P<last>\d+):(?P<end>\d+)"
+                  r"(?: \(#\d+\))?")
+
+
+class Span(NamedTuple):
+    """Where something stands in the source: the file as rustc writes it, lines, columns."""
+
+    file: str
+    first: int
+    last: int
+    column: int = 0
+    end: int = 0    # the column behind it
+
+
+def extent(places: list[Span]) -> Optional[Span]:
+    """From the first to the last character of these places of one file."""
+    if not places:
+        return None
+    first, column = min((span.first, span.column) for span in places)
+    last, end = max((span.last, span.end) for span in places)
+    return Span(places[0].file, first, last, column, end)
+
+
+@lru_cache(4096)    # a statement's is that of its constraints, too
+def span_of(text: str) -> Optional[Span]:
+    found = SPAN.fullmatch(text)
+    if not found:
+        return None
+    return Span(found["file"], *map(int, found.group("line", "last", "column", "end")))

@@ -1,0 +1,279 @@
+"""Reads types as rustc prints them with `-Zverbose-internals`."""
+
+import re
+from functools import lru_cache
+from typing import Iterator, Optional
+
+from nllc_tools.rustc.mir.scanner import Scanner
+from nllc_tools.rustc.mir.types import PLAIN, STATIC, UNIT, Part, Region, Type
+
+REGION = re.compile(r"'\?(\d+)|'(\^[\d_]+)(?:\.Named)?|'\{erased\}|'([A-Za-z_]\w*)(?:/#\d+)?")
+DEFINITION = re.compile(r"\(DefId\([^()]*\)\)")
+BINDER = re.compile(r"for<[^<>]*> ")
+QUALIFIER = re.compile(r"(?:safe |unsafe |async |const |extern \"[^\"]*\" |#\[[^\]]*\] )+")
+WORD = re.compile(r"[A-Za-z_]\w*(?:/?#\d+)?")
+BRACED = re.compile(r"\{[a-z_ ]+(?:#\d+)?\}|\{closure@[^{}]*\}")
+CONSTANT = re.compile(r"-?\d\w*|true\b|false\b|'.'|\{const|ValTree\(|ConstValue\(|Const\b|Unevaluated|Expr\(|\{\w+(?:::|/)")
+CLOSERS = {"(": ")", "[": "]", "{": "}", "<": ">"}
+
+
+def simplified(text: str) -> str:
+    """The text without rustc's numbers of definitions."""
+    return DEFINITION.sub("", text) if "DefId(" in text else text
+
+
+@lru_cache(65536)
+def read_type(text: str) -> Type:
+    """The type of a whole text."""
+    reader = Reader(simplified(text))
+    found = reader.type()
+    reader.end()
+    return found
+
+
+class Reader(Scanner):
+    """Reads types from a text, from a place on."""
+
+    def type(self) -> Type:
+        """The type that begins here."""
+        sign = self.sign()
+        if sign == "&":
+            return self.reference()
+        if sign == "*":
+            return self.pointer()
+        if sign == "[":
+            return self.slice()
+        if sign == "(":
+            return self.tuple()
+        if sign == "{":
+            return self.closure()
+        if sign == "!":
+            self.at += 1
+            return PLAIN
+        if sign == "<":
+            return self.path()
+        self.match(BINDER)
+        if self.text.startswith(("dyn ", "dyn* "), self.at):
+            return self.object()
+        if self.text.startswith("impl ", self.at):
+            return self.parameter()
+        if self.text.startswith(("fn(", "unsafe ", "extern ", "safe ", "#["), self.at):
+            return self.function()
+        if self.text.startswith("Opaque(", self.at):
+            return self.opaque()
+        return self.path()
+
+    def region(self) -> Optional[Region]:
+        """The region that stands here, if one does."""
+        found = self.match(REGION) if self.sign() == "'" else None
+        if not found:
+            return None
+        if found[1]:
+            return int(found[1])
+        if found[2]:
+            self.takes("(DefId")     # what `simplified` left of it
+            return str(found[2])
+        return STATIC if found[3] == "static" else str(found[0])
+
+    def reference(self) -> Type:
+        self.must("&")
+        region = self.region()
+        self.takes(" ")
+        if region is None:
+            region = "^"
+        form = "mut" if self.takes("mut ") else "ref"
+        return Type(form, "", (region, self.type()))
+
+    def pointer(self) -> Type:
+        if self.takes("*const "):
+            return Type("pointer", "", (self.type(),))
+        self.must("*mut ")
+        return Type("mut pointer", "", (self.type(),))
+
+    def slice(self) -> Type:
+        self.must("[")
+        inside = self.type()
+        if self.takes("; "):
+            self.skip("]")
+        self.must("]")
+        return Type("slice", "", (inside,))
+
+    def tuple(self) -> Type:
+        self.must("(")
+        if self.takes(")"):
+            return UNIT
+        parts = [self.type()]
+        if self.takes(")"):
+            return parts[0]
+        while self.takes(", ") or self.takes(","):
+            if self.sign() != ")":
+                parts.append(self.type())
+        self.must(")")
+        return Type("tuple", "", tuple(parts))
+
+    def function(self) -> Type:
+        """`fn(A, B) -> R`, which a path between braces may follow; `for<..>` is behind."""
+        self.match(QUALIFIER)
+        self.must("fn(")
+        parts = list(self.listed(")"))
+        parts.append(self.type() if self.takes(" -> ") else UNIT)
+        if not self.takes(" {"):
+            return Type("fn", "", tuple(parts))
+        path = self.path()
+        self.must("}")
+        signature = Type("fn", "", tuple(parts))
+        others = set(path.regions()) - set(signature.regions())
+        return Type("function", path.name, (Type("path", "", tuple(one for one in path.regions() if one in others)), signature))
+
+    def listed(self, closer: str) -> Iterator[Type]:
+        while not self.takes(closer):
+            if not self.takes("..."):
+                yield self.type()
+            self.takes(", ")
+
+    def object(self) -> Type:
+        """`dyn A<..> + B + '?5`."""
+        self.takes("dyn* ") or self.takes("dyn ")
+        names: list[str] = []
+        parts: list[Part] = []
+        region: Region = STATIC
+        while True:
+            self.match(BINDER)
+            found = self.region()
+            if found is not None:
+                region = found
+            else:
+                bound = self.path()
+                names.append(bound.name)
+                parts += bound.parts
+            if not self.takes(" + "):
+                break
+        return Type("dyn", " + ".join(names), (*parts, region))
+
+    def parameter(self) -> Type:
+        """`impl Trait` of an argument: a type parameter like others."""
+        return Type("plain", self.skipped(",>)]};"))
+
+    def opaque(self) -> Type:
+        self.must("Opaque(")
+        name = self.skipped(",")
+        self.must(", [")
+        parts = tuple(self.arguments("]"))
+        self.must(")")
+        return Type("alias", name, parts)
+
+    def closure(self) -> Type:
+        """`{path::{closure#0} closure_kind_ty=i16 .. upvar_tys=(T, ..)}`; that of a coroutine has other words."""
+        self.must("{")
+        self.takes("static ")
+        path = self.path()
+        upvars, signature, form = UNIT, None, "coroutine"
+        while self.takes(" "):
+            word = self.match(WORD)
+            if not word or not self.takes("="):
+                raise self.strange()
+            if word[0] == "upvar_tys":
+                upvars = self.upvars()
+            elif word[0] == "closure_sig_as_fn_ptr_ty":
+                form, signature = "closure", self.type()
+            elif word[0] == "closure_kind_ty":
+                self.type()
+            else:
+                self.skip(" }")
+        self.must("}")
+        own = [part for part in (signature,) if part is not None]
+        return Type(form, path.name, (upvars, *path.parts, *own))
+
+    def upvars(self) -> Type:
+        """The types of what is captured; of one alone the brackets are kept."""
+        begin = self.at
+        found = self.type()
+        is_one = self.text[begin] == "(" and found.form != "tuple"
+        return found if found.form == "tuple" and not is_one else Type("tuple", "", (found,))
+
+    def path(self) -> Type:
+        """`a::b<'?1, T>::c`, `<T as Trait>::Name<..>`; the parts are all arguments in order."""
+        names: list[str] = []
+        parts: list[Part] = []
+        form = "adt"
+        if self.sign() == "<" and not self.text.startswith("<impl at ", self.at):
+            form = "alias"
+            self.qualified(names, parts)
+            self.must("::")
+        before = len(names)
+        while True:
+            self.segment(names, parts)
+            if not self.takes("::"):
+                break
+        if len(names) > before + 1:     # of a struct inside a method: `<T as Trait>::method::Struct<..>`
+            form = "adt"
+        if not parts and form == "adt":
+            form = "plain"
+        return Type(form, "::".join(names), tuple(parts))
+
+    def qualified(self, names: list[str], parts: list[Part]) -> None:
+        """`<T as Trait<..>>`."""
+        self.must("<")
+        parts.append(self.type())
+        if self.takes(" as "):
+            trait = self.path()
+            names.append(f"<{trait.name.rpartition('::')[2]}>")
+            parts.extend(trait.parts)
+        self.must(">")
+
+    def segment(self, names: list[str], parts: list[Part]) -> None:
+        """A name, or arguments, or what stands for a name."""
+        if self.text.startswith("<impl ", self.at):
+            self.must("<impl ")
+            begin = self.at
+            self.skip(">")
+            inside = self.text[begin:self.at]
+            self.must(">")
+            parts.extend(int(found) for found in re.findall(r"'\?(\d+)", inside))
+            names.append("<impl>" if inside.startswith("at ") else f"<impl {re.sub(r'.?[?]?[0-9]+', '', inside)}>")
+        elif self.sign() == "<":
+            self.must("<")
+            parts.extend(self.arguments(">"))
+        elif self.sign() == "{":
+            word = self.match(BRACED)
+            if not word:
+                raise self.strange()
+            names.append(word[0])
+        else:
+            word = self.match(WORD)
+            if not word:
+                raise self.strange()
+            names.append(word[0].partition("/")[0])
+            if self.sign() == "<":
+                self.must("<")
+                parts.extend(self.arguments(">"))
+            elif self.sign() == "(" and word[0][:2] == "Fn":
+                self.must("(")
+                parts.extend(self.listed(")"))
+                if self.takes(" -> "):
+                    parts.append(self.type())
+
+    def is_constant(self) -> bool:
+        """Whether what stands here is no type; between braces there is a closure, or an expression."""
+        if self.sign() != "{":
+            return CONSTANT.match(self.text, self.at) is not None
+        begin = self.at
+        self.at += 1
+        inside = self.skipped("}")
+        self.at = begin
+        return "upvar_tys=" not in inside
+
+    def arguments(self, closer: str) -> Iterator[Part]:
+        """Regions and types between brackets; `Name = ` before a type, and constants, are skipped."""
+        while not self.takes(closer):
+            region = self.region()
+            if region is not None:
+                yield region
+            elif self.is_constant():
+                self.skip("," + closer)
+            else:
+                named = re.compile(r"[A-Za-z_]\w*(<[^=]*>)? = ").match(self.text, self.at)
+                if named:
+                    self.at = named.end()
+                yield self.type()
+            self.takes(", ") or self.takes(",")

@@ -1,0 +1,1 @@
+"""Writes texts for `nllc`, and reads them and its reports."""

@@ -1,0 +1,1 @@
+"""Facts texts: made of what rustc says of a function, written, and read."""

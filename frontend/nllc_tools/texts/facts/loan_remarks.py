@@ -1,0 +1,144 @@
+"""Reads what a facts text says beside its problem: loans, why constraints are asked, uses, needs.
+
+    # loans: COUNT
+    # loan N: 'R at P, PLACE, KIND of WHAT, by a closure, PLACE
+    # killed N: P ..                      # against P, PLACE, WAY of WHAT after P: N ..
+    # asked 'R 'R at P, PLACE: WORD       # uses 'R: P ..      # drops 'R: P ..
+    # blamed 'R 'R, PLACE: WORD           # blamed N 'R, PLACE: WORD of a closure
+    # used P, PLACE                       # called P by N .., PLACE   # captured P 'R, PLACE
+    # needs 'R 'R                         # gone P, L:C, CODE of WHAT, by P ..: P ..
+    # rustc LINE:COLUMN: WORDS            # label PLACE: WORDS
+    # within PATH, PLACE                  # invoked PATH, PLACE
+    # note: WORDS                         # help: WORDS
+
+A place is `L:C-L:C` or `elsewhere`. docs/FROM-RUST.md says what each means.
+"""
+
+import re
+from typing import Optional
+
+from nllc_tools.model.said import Against, Asked, Beside, Blamed, Error, Gone, Label, Loan, Place, Within
+
+PLACE = r"(\d+:\d+-\d+:\d+|elsewhere)"
+FORMS = {
+    "loans:": re.compile(r"# loans: (\d+)"),
+    "loan": re.compile(rf"# loan (\d+): '(\w+) at (\d+), {PLACE}, (mut|unique|shared|fake) of (.*?)"
+                       rf"(, by a closure)?(?:, {PLACE})?"),
+    "killed": re.compile(r"# killed (\d+): ([\d ]+)"),
+    "against": re.compile(rf"# against (\d+), {PLACE}, (\w+)(?: of (\S+))?(?: after (\d+))?: ([\d ]+)"),
+    "asked": re.compile(rf"# asked '(\w+) '(\w+)(?: at (\d+))?, {PLACE}: (\w+)"),
+    "blamed": re.compile(rf"# blamed ('\w+|\d+) '(\w+), {PLACE}: (\w+)( of a closure)?"),
+    "uses": re.compile(r"# uses '(\w+): ([\d ]+)"),
+    "drops": re.compile(r"# drops '(\w+): ([\d ]+)"),
+    "used": re.compile(rf"# used (\d+), {PLACE}"),
+    "called": re.compile(rf"# called (\d+)(?: by ([\d ]+))?, {PLACE}"),
+    "captured": re.compile(rf"# captured (\d+) '(\w+), {PLACE}"),
+    "needs": re.compile(r"# needs '(\w+) '(\w+)"),
+    "gone": re.compile(r"# gone (\d+), (\d+):(\d+), (E038[124]) of (\w+), by ([\d ]+):([\d ]*)"),
+    "rustc": re.compile(r"# rustc (\d+):(\d+): (.*)"),
+    "help:": re.compile(r"# help: (.*)"),
+    "note:": re.compile(r"# note: (.*)"),
+    "within": re.compile(rf"# within (.*), {PLACE}"),
+    "invoked": re.compile(rf"# invoked (.*), {PLACE}"),
+    "label": re.compile(rf"# label {PLACE}(?:: (.*))?"),
+}
+
+
+class LoanRemarkReader:
+    """Takes the lines in."""
+
+    def __init__(self, beside: Beside):
+        self.beside = beside
+
+    def read(self, line: str) -> bool:
+        """Takes a remark line in, if it has one of the forms; whether it has."""
+        word = line.removeprefix("# ").split(" ", 1)[0]
+        found = FORMS[word].fullmatch(line) if word in FORMS else None
+        if found:
+            getattr(self, f"take_{word.rstrip(':')}")(*found.groups())
+        return found is not None
+
+    def take_loans(self, count: str) -> None:
+        self.beside.count = int(count)
+
+    def take_loan(self, number: str, region: str, at: str, place: str, kind: str, what: str, closure: Optional[str],
+                  home: Optional[str]) -> None:
+        self.beside.loans[int(number)] = Loan(region, int(at), place_of(place), kind, what,
+                                              closure is not None, place_of(home))
+
+    def take_killed(self, number: str, points: str) -> None:
+        self.beside.killed[int(number)] = set(numbers(points))
+
+    def take_against(self, point: str, place: str, way: str, what: Optional[str], begun: Optional[str], loans: str) -> None:
+        first = None if begun is None else int(begun)
+        self.beside.against.append(Against(int(point), place_of(place), way, first, numbers(loans), what or ""))
+
+    def take_asked(self, sup: str, sub: str, point: Optional[str], place: str, word: str) -> None:
+        asked = Asked(None if point is None else int(point), place_of(place), word)
+        self.beside.asked.setdefault((sup, sub), []).append(asked)
+
+    def take_blamed(self, begin: str, goal: str, place: str, word: str, closure: Optional[str]) -> None:
+        self.beside.blamed[begin.lstrip("'"), goal] = Blamed(place_of(place), word, closure is not None)
+
+    def take_uses(self, region: str, points: str) -> None:
+        self.beside.uses[region] = set(numbers(points))
+
+    def take_drops(self, region: str, points: str) -> None:
+        self.beside.drops[region] = set(numbers(points))
+
+    def take_used(self, point: str, place: str) -> None:
+        self.beside.used[int(point)] = place_of(place)
+
+    def take_called(self, point: str, loans: Optional[str], place: str) -> None:
+        by: list[Optional[int]] = [*numbers(loans)] if loans else [None]
+        for loan in by:
+            self.beside.called[int(point), loan] = place_of(place)
+
+    def take_captured(self, point: str, region: str, place: str) -> None:
+        self.beside.captured[int(point), region] = place_of(place)
+
+    def take_needs(self, sup: str, sub: str) -> None:
+        self.beside.needs.add((sup, sub))
+
+    def take_gone(self, point: str, line: str, column: str, code: str, what: str, walk: str, since: str) -> None:
+        place = Place(int(line), int(column), int(line), int(column))
+        there = [known.point for known in self.beside.gone if known.place == place]
+        if int(point) not in there:
+            self.beside.gone.append(Gone(int(point), place, code, what, numbers(walk), numbers(since), len(there)))
+
+    def take_rustc(self, line: str, column: str, words: str) -> None:
+        self.beside.rustc.append(Error(int(line), int(column), words, [], [], []))
+
+    def take_within(self, path: str, place: str) -> None:
+        if self.beside.rustc:
+            self.beside.rustc[-1] = self.beside.rustc[-1]._replace(within=Within(path, place_of(place)))
+
+    def take_invoked(self, path: str, place: str) -> None:
+        if self.beside.rustc:
+            self.beside.rustc[-1] = self.beside.rustc[-1]._replace(invoked=Within(path, place_of(place)))
+
+    def take_note(self, words: str) -> None:
+        if self.beside.rustc:
+            self.beside.rustc[-1].notes.append(words)
+
+    def take_help(self, words: str) -> None:
+        if self.beside.rustc:
+            self.beside.rustc[-1].helps.append(words)
+
+    def take_label(self, place: str, words: Optional[str]) -> None:
+        if self.beside.rustc and place != "elsewhere":
+            self.beside.rustc[-1].labels.append(Label(known_place(place), words or ""))
+
+
+def numbers(text: str) -> list[int]:
+    return [int(word) for word in text.split()]
+
+
+def place_of(text: Optional[str]) -> Optional[Place]:
+    """The place; none for `elsewhere`, or where nothing is said."""
+    return known_place(text) if text and text != "elsewhere" else None
+
+
+def known_place(text: str) -> Place:
+    line, column, last, end = map(int, re.findall(r"\d+", text))
+    return Place(line, column, last, end)

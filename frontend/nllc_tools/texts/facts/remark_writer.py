@@ -1,0 +1,235 @@
+"""What a text says beside its problem: loans, why constraints are asked, uses, needs, rustc's word.
+
+`nllc` skips all of it. It is what faults are told by, in the words of the source.
+"""
+
+import os
+from typing import Iterable, Iterator, Optional
+
+from nllc_tools.base.walks import backwards, shortest
+from nllc_tools.model.blame import Blame, word_of
+from nllc_tools.model.liveness import table_of
+from nllc_tools.model.loans import Loan, Loans
+from nllc_tools.model.moves import MOVES, Moved
+from nllc_tools.model.points import Points
+from nllc_tools.model.regions import STATIC, Regions
+from nllc_tools.rustc.dumps import Dump
+from nllc_tools.rustc.errors import INVOCATION, Error, Label
+from nllc_tools.rustc.mir.body import Body, Local, Reason, methods_on_results
+from nllc_tools.rustc.mir.captures import captures
+from nllc_tools.rustc.mir.debug_places import Place
+from nllc_tools.rustc.mir.desugarings import Desugarings
+from nllc_tools.rustc.mir.spans import Span
+from nllc_tools.rustc.tables import Location, Tables
+
+
+class Inside:
+    """The constraints between regions that are equal everywhere, for which a text has one name."""
+
+    def __init__(self, reasons: list[Reason], regions: Regions):
+        self.regions = regions
+        self.onwards: dict[int, list[Reason]] = {}
+        for reason in reasons:
+            if regions.find(reason.sup) == regions.find(reason.sub) and reason.sup != reason.sub:
+                self.onwards.setdefault(reason.sup, []).append(reason)
+
+    def onward(self, region: int) -> list[Reason]:
+        """A shortest chain from the region to the universal one that it equals."""
+        goal = self.regions.find(region)
+        if not self.regions.is_universal(goal):
+            return []
+        came_by = shortest(region, lambda one: ((reason.sub, reason) for reason in self.onwards.get(one, ())))
+        return backwards(came_by, goal, lambda reason: reason.sup)[::-1]
+
+
+class Beside:
+    """Makes the lines of one function."""
+
+    def __init__(self, dump: Dump, tables: Tables, body: Body, points: Points, regions: Regions,
+                 names: dict[int, str], source: str, desugarings: Desugarings):
+        self.dump, self.tables, self.body, self.source = dump, tables, body, source
+        self.number, self.regions, self.names = points.number, regions, names
+        self.desugarings = desugarings
+
+    def lines(self, errors: Iterable[Error]) -> list[str]:
+        own = Loans(self.dump, self.tables, self.body)
+        errors = list(errors)
+        return [*self.loan_lines(own), *self.reason_lines(), *self.blame_lines(own), *self.use_lines(),
+                *(self.used_lines(own) if errors else ()), *self.called_lines(), *self.received_lines(own),
+                *self.captured_lines(), *self.need_lines(), *self.gone_lines(errors), *self.rustc_lines(errors)]
+
+    def name(self, region: int) -> Optional[str]:
+        """The name of the region's class with its `'`, where the text has it."""
+        found = self.names.get(self.regions.find(region))
+        return f"'{found}" if found else None
+
+    def place(self, span: Optional[Span]) -> str:
+        """`8:16-8:22`: where the first character stands, and the one behind the last."""
+        if span is None or span.file != self.source:
+            return "elsewhere"
+        return f"{span.first}:{span.column}-{span.last}:{span.end}"
+
+    def numbers(self, locations: Iterable[Location]) -> str:
+        return " ".join(str(n) for n in sorted({self.number[one] for one in locations}))
+
+    def loan_lines(self, own: Loans) -> Iterator[str]:
+        yield f"loans: {len(own.loans)}"
+        for number, loan in sorted(own.loans.items()):
+            yield f"loan {number}: {self.loan(loan)}"
+            if loan.killed:
+                yield f"killed {number}: {self.numbers(loan.killed)}"
+        for location, way, span, loans in own.against:
+            what = f" of {self.path(way.place)}" if way.place else ""
+            after = f" after {self.number[way.begun]}" if way.begun else ""
+            numbers = " ".join(map(str, loans))
+            yield f"against {self.number[location]}, {self.place(span)}, {way.word}{what}{after}: {numbers}"
+
+    def path(self, place: Place) -> str:
+        """`list.*.0`: a variable, by its name if it has one, and the steps from it."""
+        root = self.body.locals.get(place.local)
+        name = root.name if root and root.name else f"_{place.local}"
+        steps = [step.replace(" ", "-") for step in place.steps]
+        return ".".join([name, *steps]) + ("'" if place.has_lifetimes else "")
+
+    def loan(self, loan: Loan) -> str:
+        """`'r4 at 5, 8:16-8:22, mut of list`, and where else it stands."""
+        what = self.body.name_of(loan.place) or "a temporary"
+        deref = "*" if "*" in loan.place.steps else ""
+        kind = "unique" if loan.is_unique else loan.kind
+        by = ", by a closure" if loan.is_capture else ""
+        home = f", {self.place(loan.home)}" if loan.home else ""
+        return (f"{self.name(loan.region)} at {self.number[loan.location]}, "
+                f"{self.place(loan.span)}, {kind} of {deref}{what}{by}{home}")
+
+    def reason_lines(self) -> Iterator[str]:
+        """Why each constraint is asked, at the point of its statement or everywhere."""
+        said: dict[str, None] = {}
+        inside = Inside(self.body.reasons, self.regions)
+        for reason in self.body.reasons:
+            sup, sub = self.name(reason.sup), self.name(reason.sub)
+            if not sup or not sub or sup == sub:
+                continue
+            at = "" if reason.location is None else f" at {self.number[reason.location]}"
+            for one in (*inside.onward(reason.sub)[::-1], reason):
+                word = word_of(one)
+                if word:
+                    said[f"asked {sup} {sub}{at}, {self.place(one.span)}: {word}"] = None
+        return iter(said)
+
+    def blame_lines(self, own: Loans) -> Iterator[str]:
+        """Which constraint rustc names where a universal region, or a loan, would have to outlive another one."""
+        blame = Blame(self.body, self.desugarings)
+        universals = [region for region in self.regions.universals if self.name(region)]
+        known = set(self.tables.known_placeholder_subset)
+        begins = [(self.name(region), region) for region in universals if region != STATIC]
+        begins += [(str(number), loan.region) for number, loan in sorted(own.ending().items())]
+        for name, begin in begins:
+            goals = [goal for goal in universals if goal != begin and (begin, goal) not in known]
+            for goal, chain in sorted(blame.chains(begin, goals).items()):
+                named = blame.named(chain)
+                whose = " of a closure" if blame.is_of_closure(named) else ""
+                yield f"blamed {name} {self.name(goal)}, {self.place(named.span)}: {word_of(named) or 'step'}{whose}"
+
+    def use_lines(self) -> Iterator[str]:
+        """At which points variables of a region's types are used, and at which dropped."""
+        for word, origins, events in (
+                ("uses", self.tables.use_of_var_derefs_origin, self.tables.var_used_at),
+                ("drops", self.tables.drop_of_var_derefs_origin, self.tables.var_dropped_at)):
+            at: dict[int, set[Location]] = {}
+            for variable, spot in events:
+                at.setdefault(variable, set()).add(spot.location)
+            found: dict[int, set[Location]] = {}
+            for variable, region in origins:
+                region = self.regions.find(region)
+                if not self.regions.is_universal(region):
+                    found.setdefault(region, set()).update(at.get(variable, ()))
+            for region, locations in sorted(found.items()):
+                if locations:
+                    yield f"{word} {self.name(region)}: {self.numbers(locations)}"
+
+    def used_lines(self, own: Loans) -> Iterator[str]:
+        """Where a statement stands that uses a variable with lifetimes, in a line of something that goes against loans.
+
+        That is read where there is something to tell.
+        """
+        lines = {span.last for one in own.against for span in (one.span, self.body.statements[one.location].span)
+                 if span and span.file == self.source}
+        variables = {variable for variable, _ in self.tables.use_of_var_derefs_origin} if lines else ()
+        used = {spot.location for variable, spot in self.tables.var_used_at if variable in variables}
+        for location in sorted(used):
+            span = self.body.statements[location].span
+            if span and span.file == self.source and span.first == span.last and span.last in lines:
+                yield f"used {self.number[location]}, {self.place(span)}"
+
+    def called_lines(self) -> Iterator[str]:
+        """Where the function stands that a statement over several lines calls, if that is in another line."""
+        for location, statement in sorted(self.body.statements.items()):
+            span = statement.span
+            function = self.body.function_span(location) if span and span.first != span.last else None
+            if function and span and location in self.number and self.place(function) != "elsewhere" \
+                    and function.first != span.first:
+                yield f"called {self.number[location]}, {self.place(function)}"
+
+    def received_lines(self, own: Loans) -> Iterator[str]:
+        """Where a method stands, in another line, that is called on a variable whose value comes from the tail of a block.
+
+        That is so for the loans of the tail: the use that rustc names then is that of the method.
+        """
+        for location, function in methods_on_results(self.body):
+            span, made = self.body.statements[location].span, []
+            if location in self.number and span and function.first != span.first and self.place(function) != "elsewhere" \
+                    and self.desugarings.before(function) == ".":
+                made = [number for number, loan in sorted(own.loans.items())
+                        if loan.location != location and loan.target is not None
+                        and is_overlapping(span, self.body.locals.get(loan.target))]
+            if made:
+                yield f"called {self.number[location]} by {' '.join(map(str, made))}, {self.place(function)}"
+
+    def captured_lines(self) -> Iterator[str]:
+        """Where a closure over several lines uses what it takes of a region, if that is in another line than its begin."""
+        regions = table_of(self.tables.use_of_var_derefs_origin)
+        for location, variable, use in captures(self.dump, self.body):
+            begin = self.body.statements[location].span
+            if use and begin and location in self.number and self.place(use) != "elsewhere" and use.first != begin.first:
+                names = {name for region in regions.get(variable, ()) if (name := self.name(region))}
+                yield from (f"captured {self.number[location]} {name}, {self.place(use)}" for name in sorted(names))
+
+    def need_lines(self) -> Iterator[str]:
+        """What a closure or coroutine needs of lifetimes of the function around it."""
+        for sup, sub in self.body.needs:
+            if sup in self.body.external and self.name(sup) and self.name(sub):
+                yield f"needs {self.name(sup)} {self.name(sub)}"
+
+    def gone_lines(self, errors: list[Error]) -> Iterator[str]:
+        """What is accessed or assigned where it mustn't be, since when, and a walk to there."""
+        moved = Moved(self.tables, self.body) if any(error.code in MOVES for error in errors) else None
+        for error, one in moved.of(errors) if moved else ():
+            name = self.path(Place(one.variable))
+            walk = " ".join(str(self.number[location]) for location in one.walk)
+            yield (f"gone {self.number[one.location]}, {error.line}:{error.column}, {one.code} of {name}, "
+                   f"by {walk}: {self.numbers(one.since)}").rstrip()
+
+    def rustc_lines(self, errors: Iterable[Error]) -> Iterator[str]:
+        """The errors, and below each the places that it names."""
+        for error in errors:
+            yield f"rustc {error.line}:{error.column}: {error.words()}"
+            for label in error.labels:
+                if label.file == self.source:
+                    yield f"label {place_words(label)}: {label.text}".rstrip(": ")
+            if error.within:
+                yield f"within {os.path.join(error.root, error.within.file)}, {place_words(error.within)}"
+            yield from (f"invoked {os.path.join(error.root, label.file)}, {place_words(label)}" for label in error.labels
+                        if label.text == INVOCATION and label.file != self.source)
+            yield from (f"note: {note}" for note in error.notes)
+            yield from (f"help: {one}" for one in error.helps)
+
+
+def is_overlapping(span: Optional[Span], local: Optional[Local]) -> bool:
+    """Whether a variable is declared within a place, or around it."""
+    other = local.span if local else None
+    return span is not None and other is not None and span.file == other.file \
+        and (span.first, span.column) < (other.last, other.end) and (other.first, other.column) < (span.last, span.end)
+
+
+def place_words(label: Label) -> str:
+    return f"{label.line}:{label.column}-{label.last}:{label.end}"

@@ -1,0 +1,120 @@
+"""The part of a Rust file that a page shows, and its words by kind."""
+
+import os
+import re
+from functools import lru_cache
+from typing import NamedTuple
+
+from nllc_tools.base.command_line import called
+from nllc_tools.base.refusal import Refusal
+
+MOST_BYTES = 4 * 1024 * 1024
+
+WORD = re.compile(r"""
+    (?P<comment>//.*|/\*.*?(?:\*/|$))
+  | (?P<string>b?"(?:[^"\\]|\\.)*"?)
+  | (?P<char>b?'(?:[^'\\]|\\.[^']*)')
+  | (?P<lifetime>'[A-Za-z_]\w*)
+  | (?P<number>\b[0-9][0-9a-fA-Fx_]*\w*)
+  | (?P<keyword>\b(?:as|async|await|break|const|continue|crate|dyn|else|enum|extern|false|fn|for|
+      if|impl|in|let|loop|match|mod|move|mut|pub|ref|return|self|Self|static|struct|super|trait|
+      true|type|unsafe|use|where|while)\b)
+""", re.VERBOSE)
+
+# The words of a MIR text. Its regions may have a number for a name.
+MIR_WORD = re.compile(r"""
+    (?P<comment>^\s*\#.*)
+  | (?P<lifetime>'\w+)
+  | (?P<keyword>\b(?:universal|outlives|region|assert|struct|let|blocks|block|read|live|dead|nop|goto|switch|drop|call|
+      where|unwind|return|stop|end|make|mut|const|copy|move|int|fn|for)\b)
+  | (?P<number>\b[0-9]+\b)
+""", re.VERBOSE)
+
+
+class Source(NamedTuple):
+    """Some lines of a file: its path, the number of the first line, the lines."""
+
+    path: str
+    first: int
+    lines: list
+
+
+def find(facts, facts_path, given):
+    """The path of the source: the given one, or that of the text's remark if it is there."""
+    if given is not None:
+        return given
+    named = facts.remarks.source
+    if not named:
+        return None
+    beside = os.path.join(os.path.dirname(facts_path), named)
+    return next((path for path in (named, beside) if os.path.isfile(path)), None)
+
+
+def read(path, facts):
+    """The lines of the file round those that the points' remarks name; all, where none is named."""
+    try:
+        found = os.stat(path)
+        lines = lines_of(path, found.st_mtime_ns, found.st_size)
+    except OSError as error:
+        raise Refusal(f"{path} can't be read: {error.strerror}") from None
+    except UnicodeDecodeError:
+        raise Refusal(f"{path} isn't UTF-8, so it is no Rust file") from None
+    named = [r.line for r in [*facts.remarks.points.values(), *facts.remarks.regions.values()]
+             if r.line]
+    if named and max(named) > len(lines):
+        raise Refusal(f"{path} has {len(lines)} lines, and the facts text speaks of line "
+                      f"{max(named)}: "
+                      f"was the file changed? `{called('facts')}` makes a new text")
+    first, last = window(lines, named) if named else (1, len(lines))
+    return Source(path, first, lines[first - 1:last])
+
+
+@lru_cache(16)
+def lines_of(path, _changed, _size):
+    """The lines of the file as it is since then; it is read once for all of its functions."""
+    with open(path, encoding="utf-8") as file:
+        text = file.read(MOST_BYTES + 1)
+    if len(text) > MOST_BYTES:
+        raise Refusal(f"{path} is longer than 4 MiB; leave it out, and the page lists the "
+                      "points instead")
+    return text.replace("\r\n", "\n").removesuffix("\n").split("\n")
+
+
+def window(lines, named):
+    """From the `fn` above the first line to the end of the last line's block."""
+    first, last = min(named), max(named)
+    for above in range(first, max(first - 40, 0), -1):
+        if re.search(r"\bfn\b", lines[above - 1]):
+            first = above
+            break
+    while first > 1 and re.match(r"\s*(#\[|///)", lines[first - 2]):
+        first -= 1
+    depth = indent(lines[first - 1])
+    while last < len(lines) and last < max(named) + 40 and not closes(lines[last - 1], depth):
+        last += 1
+    return (first, last) if closes(lines[last - 1], depth) else (first, max(named))
+
+
+def indent(line):
+    return len(line) - len(line.lstrip())
+
+
+def closes(line, depth):
+    return indent(line) <= depth and line.rstrip().endswith("}")
+
+
+def is_mir(source):
+    """Whether these are lines of a MIR text."""
+    return source.path.endswith(".mir") or source.first == 1 and source.lines[0].split()[:1] == ["nll-mir"]
+
+
+def pieces(line, of_mir=False):
+    """The line cut into pairs of a kind ("" for the rest) and text."""
+    at = 0
+    for found in (MIR_WORD if of_mir else WORD).finditer(line):
+        if found.start() > at:
+            yield "", line[at:found.start()]
+        yield found.lastgroup, found[0]
+        at = found.end()
+    if at < len(line):
+        yield "", line[at:]

@@ -1,0 +1,1 @@
+"""The gallery: cards with small functions, both verdicts and a sentence each."""

@@ -1,0 +1,36 @@
+"""Two answers side by side: each constraint from its point on, and each of them at all points."""
+
+from nllc_tools.base import sentences
+from nllc_tools.judge.two_answers import alone, counted, differing
+from nllc_tools.views.html.escaping import sentence, text
+
+
+def both(content):
+    """The part of the page; nothing where there is no second answer."""
+    if content.everywhere is None:
+        return ""
+    rows = [row("answer", text(counted(content)), text(counted(content.everywhere)))]
+    only_first, only_second = alone(content)
+    rows += [row(place_of(one), sentence(one.head), "–") for one in only_first]
+    rows += [row(place_of(one), "–", sentence(one.head)) for one in only_second]
+    return ('<section class="answers" aria-label="Both answers"><h2>Constraints from points on, or at all points</h2>'
+            "<p>On the left each constraint holds from a point on. On the right each one holds at all points, as "
+            "rustc’s own solver takes them. Whatever is only on the right is precision gained by points.</p>"
+            '<table><thead><tr><td></td><th scope="col">from points on</th><th scope="col">at all points</th></tr>'
+            f'</thead><tbody>{"".join(rows)}</tbody></table><p>{regions_words(differing(content))}</p></section>')
+
+
+def regions_words(regions):
+    """How many regions hold more at all points; the list of regions has a second strip for each."""
+    if not regions:
+        return "Each region holds the same in both."
+    return (f"{sentences.plural(len(regions), 'region')} of the list below {'holds' if len(regions) == 1 else 'hold'} more "
+            "at all points: the lower strip.")
+
+
+def row(name, left, right):
+    return f'<tr><th scope="row">{name}</th><td>{left}</td><td>{right}</td></tr>'
+
+
+def place_of(told):
+    return f"line {told.place.line}" if told.place else "fault"

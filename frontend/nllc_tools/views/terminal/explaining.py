@@ -1,0 +1,40 @@
+"""Faults and loans for a terminal, step by step."""
+
+from nllc_tools.base import sentences
+from nllc_tools.base.sentences import Code
+from nllc_tools.judge import asking_statements, chain_sentences
+from nllc_tools.model import region_names
+
+
+def lines(content):
+    """A line for each fault, and one for each step of its chain; then the same for each loan."""
+    facts = content.facts
+    for fault in content.faults:
+        yield sentences.plain(chain_sentences.fault_head(facts, fault.sup, fault.sub)) + ":"
+        yield f"    {sentences.plain([region_names.end(facts, fault.sub), ' reaches'])}"
+        for step in fault.steps:
+            yield f"    {sentences.plain(chain_sentences.step_brief(facts, step))}"
+    for fault in content.loans:
+        yield from loan_lines(facts, fault)
+
+
+def loan_lines(facts, fault):
+    point, cause, region = fault.against.point, fault.cause, Code(f"'{fault.loan.region}")
+    yield sentences.plain(["why ", region, f" holds point {facts.point_name(point)}, ", *asking_statements.statement(facts, point), ":"])
+    yield "    " + sentences.plain(first_line(facts, cause, point))
+    for step in cause.steps:
+        sup, sub = region_names.tick(facts, step.constraint.sup), region_names.tick(facts, step.constraint.sub)
+        asked = chain_sentences.reason(facts, step.constraint) or ["By the text, "]
+        way = [", inside which ", chain_sentences.walk_text(facts, step.walk), " leads there"] if step.walk else \
+            [", which holds it"]
+        yield "    " + sentences.plain([*asked, sup, " must outlive ", sub, *way])
+
+
+def first_line(facts, cause, point):
+    name = region_names.tick(facts, cause.region)
+    if facts.is_universal(cause.region):
+        return [name, " outlives the function, so it holds each point"]
+    if cause.use is None:
+        return [name, f" is live at point {facts.point_name(point)}"]
+    return [name, f" is live at point {facts.point_name(point)}: ", *asking_statements.statement(facts, cause.use),
+            " drops it" if cause.is_drop else " uses it"]
