@@ -3,18 +3,16 @@
 from __future__ import annotations
 
 import os
-import select
 import shutil
-import signal
 import subprocess
 import sys
-import time
-from contextlib import ExitStack, suppress
+from contextlib import ExitStack, closing
 from functools import cache
 from io import FileIO
-from typing import Collection, NamedTuple, Optional
+from typing import NamedTuple
 
-from nllc_tools.base.refusal import Refusal
+from nllc_tools.base.progress import Progress
+from nllc_tools.base.refusal import Refusal, refusing
 
 ROOT = os.path.dirname(os.path.dirname(os.path.dirname(os.path.dirname(os.path.abspath(__file__)))))
 
@@ -22,8 +20,12 @@ PROVED = "proved"
 UNPROVED = "not proved"
 UNKNOWN = "unknown"
 STANDINGS = {"proved": PROVED, "unproved": UNPROVED}    # as `nllc.sh --which` says it
-INSTALLED = {"nllc": PROVED, "nllc-unproved": UNPROVED}    # beside the folder frontend/ of an installed copy
-PATIENCE = 1.0
+STATUSES = {"values": (0,), "check": (0, 1)}            # with which `nllc` answers
+
+
+def installed(name: str) -> dict[str, str]:
+    """The builds of a program beside the folder frontend/ of an installed copy, and whether they are proved."""
+    return {os.path.join(ROOT, name): PROVED, os.path.join(ROOT, f"{name}-unproved"): UNPROVED}
 
 
 class RefusedText(Refusal):
@@ -53,69 +55,65 @@ class Program(NamedTuple):
     standing: str
 
 
+def program() -> Program:
+    """The program that is found, or that `nllc.sh` runs."""
+    found = find()
+    if os.path.basename(found) == "nllc.sh":
+        return program_of(found)
+    return Program(found, installed("nllc").get(found, UNKNOWN))
+
+
 def find() -> str:
     """The program in the variable NLLC, the repository's `nllc.sh`, that of an installed copy, or the `nllc` on the PATH."""
     named = os.environ.get("NLLC")
-    if named:
-        found = shutil.which(named)
-        if not found:
-            raise Refusal(f"there is no program {named}, which the variable NLLC names")
-        return found
-    beside = (os.path.join(ROOT, name) for name in ("nllc.sh", *INSTALLED))
-    found = next((path for path in beside if os.access(path, os.X_OK)), None) or shutil.which("nllc")
+    beside = (path for path in (os.path.join(ROOT, "nllc.sh"), *installed("nllc")) if os.access(path, os.X_OK))
+    found = shutil.which(named) if named else next(beside, None) or shutil.which("nllc")
     if not found:
-        raise Refusal("no nllc is found: neither next to the folder frontend/ nor on the PATH; name one "
-                      "by the variable NLLC")
+        raise Refusal(f"there is no program {named}, which the variable NLLC names" if named else
+                      "no nllc is found: neither next to the folder frontend/ nor on the PATH; name one by the variable NLLC")
     return found
 
 
 @cache
-def program_of(found: str) -> Program:
-    """The program that is found; `nllc.sh` is asked once which one it runs, and compiles that if need be."""
-    if os.path.basename(found) != "nllc.sh":
-        is_installed = found in (os.path.join(ROOT, name) for name in INSTALLED)
-        return Program(found, INSTALLED[os.path.basename(found)] if is_installed else UNKNOWN)
-    try:
-        with subprocess.Popen([found, "--which"], stdin=subprocess.DEVNULL, stdout=subprocess.PIPE, encoding="utf-8",
-                              errors="replace", stderr=None if sys.stderr.isatty() else subprocess.PIPE) as asked:
-            for line in asked.stderr or ():
-                sys.stderr.write(line)
-                sys.stderr.flush()
-            assert asked.stdout
-            standing, _, path = asked.stdout.read().strip().partition(" ")
-    except OSError as error:
-        raise Refusal(f"{found} can't be run: {error.strerror}") from None
+def program_of(script: str) -> Program:
+    """The program that `nllc.sh` runs; it is asked once, and compiles that if need be."""
+    stderr = None if sys.stderr.isatty() else subprocess.PIPE
+    with refusing(f"{script} can't be run"), subprocess.Popen(
+            [script, "--which"], stdin=subprocess.DEVNULL, stdout=subprocess.PIPE, stderr=stderr, encoding="utf-8",
+            errors="replace") as asked:
+        for line in asked.stderr or ():
+            print(line, end="", file=sys.stderr, flush=True)
+        assert asked.stdout
+        standing, _, path = asked.stdout.read().strip().partition(" ")
     if asked.returncode or standing not in STANDINGS:
-        raise Refusal(f"{shown(found)} has no program to run, as it says above", 3)
+        raise Refusal(f"{shown(script)} has no program to run, as it says above", 3)
     return Program(path, STANDINGS[standing])
 
 
 def run(text: bytes) -> Report:
     """Runs `values` and `check` on the text, side by side."""
-    program, standing = program_of(find())
-    values, check = both = [Run(program, command) for command in ("values", "check")]
-    run_on(text, both)
-    values.judge((0,))
-    check.judge((0, 1))
-    return Report(values.out, fault_lines(check.out), shown(program), standing)
+    path, standing = program()
+    (_, values), (_, faults) = answers(path, text, "values", "check")
+    return Report(values, fault_lines(faults), shown(path), standing)
 
 
 def has_faults(text: bytes) -> bool:
     """Whether `check` finds faults in the text."""
-    check = Run(program_of(find()).path, "check")
-    run_on(text, [check])
-    check.judge((0, 1))
-    return check.status == 1
+    [(status, _)] = answers(program().path, text, "check")
+    return status == 1
 
 
-def run_on(text: bytes, runs: list[Run]) -> None:
-    """Runs all on the text, which stands in memory, and waits for them."""
-    with in_memory() as copy, ExitStack() as started:
+def answers(path: str, text: bytes, *commands: str) -> list[tuple[int, str]]:
+    """The statuses of these commands on the text, which run side by side, and what they print; says so where it takes long."""
+    with ExitStack() as started:
+        copy = started.enter_context(in_memory())
         copy.write(text)
-        for one in runs:
-            one.start(copy)
-            started.callback(one.stop)
-        wait(runs)
+        runs = [started.enter_context(closing(Run(path, command, copy))) for command in commands]
+        with Progress(lambda: "nllc computes the values"):
+            for one in runs:
+                one.process.wait()
+        found = [one.answer() for one in runs]
+    return found
 
 
 def in_memory() -> FileIO:
@@ -124,86 +122,34 @@ def in_memory() -> FileIO:
 
 
 class Run:
-    """One process, and what it writes."""
+    """One process, and what it writes. The text is its standard input, which it opens by its name, so from the beginning on."""
 
-    def __init__(self, program: str, command: str):
-        self.program, self.command = program, command
-        self.process: Optional[int] = None
-        self.status: Optional[int] = None
-        self.written: list[FileIO] = []
-        self.out = self.err = ""
+    def __init__(self, path: str, command: str, text: FileIO):
+        self.path, self.statuses = path, STATUSES[command]
+        self.out, self.err = in_memory(), in_memory()
+        with refusing(f"{path} can't be run"):
+            self.process = subprocess.Popen([path, command, "/dev/stdin"], stdin=text, stdout=self.out, stderr=self.err)
 
-    def start(self, text: FileIO) -> None:
-        """Starts it; the text is its standard input, which it opens by its name, so from the beginning on."""
-        self.written = [in_memory(), in_memory()]
-        streams = [(os.POSIX_SPAWN_DUP2, file.fileno(), number) for number, file in enumerate([text, *self.written])]
-        try:
-            self.process = os.posix_spawn(self.program, [self.program, self.command, "/dev/stdin"], environment(),
-                                          file_actions=streams, setsigdef=[signal.SIGPIPE])
-        except OSError as error:
-            raise Refusal(f"{self.program} can't be run: {error.strerror}") from None
-
-    def end(self) -> None:
-        """Waits until the process has ended, and takes what it wrote."""
-        assert self.process is not None
-        self.status = os.waitstatus_to_exitcode(os.waitpid(self.process, 0)[1])
-        self.out, self.err = (content_of(file) for file in self.written)
-
-    def stop(self) -> None:
-        """Ends it where it runs still."""
-        if self.process is not None and self.status is None:
-            with suppress(ProcessLookupError, ChildProcessError):
-                os.kill(self.process, signal.SIGTERM)
-                os.waitpid(self.process, 0)
-        for file in self.written:
-            file.close()
-
-    def judge(self, statuses: Collection[int]) -> None:
-        """Refuses with the line of `nllc` where it didn't answer."""
-        status = self.status
-        if status in statuses:
-            return
-        said = self.err.strip().splitlines()
+    def answer(self) -> tuple[int, str]:
+        """Its status, and what it printed; refuses with the line of `nllc` where it didn't answer."""
+        status, said = self.process.returncode, content_of(self.err).strip().splitlines()[-1:]
         if status == 2:
-            raise RefusedText(f"nllc refuses the text: {said[-1] if said else 'it gave no reason'}")
-        last = said[-1] if said else "it said nothing"
-        raise Refusal(f"{shown(self.program)} ended with status {status}: {last}", 3)
+            raise RefusedText(f"nllc refuses the text: {said[0] if said else 'it gave no reason'}")
+        if status not in self.statuses:
+            raise Refusal(f"{shown(self.path)} ended with status {status}: {said[0] if said else 'it said nothing'}", 3)
+        return status, content_of(self.out)
 
-
-@cache
-def environment() -> dict[str, str]:
-    return dict(os.environ)     # os.environ itself is read anew, variable by variable, at each start
+    def close(self) -> None:
+        """Ends it where it runs still."""
+        self.process.terminate()
+        self.process.wait()
+        self.out.close()
+        self.err.close()
 
 
 def content_of(file: FileIO) -> str:
     file.seek(0)
     return file.read().decode("utf-8", "replace")
-
-
-def wait(runs: list[Run]) -> None:
-    """Waits for all; says so on standard error, each second, where somebody looks."""
-    began = time.monotonic()
-    told = False
-    for run in runs:
-        while run.process is not None and sys.stderr.isatty() and not is_ended(run.process):
-            sys.stderr.write(f"\rnllc computes the values ({time.monotonic() - began:.0f} s) ")
-            sys.stderr.flush()
-            told = True
-        run.end()
-    if told:
-        sys.stderr.write("\r\033[K")
-
-
-def is_ended(process: int) -> bool:
-    """Whether a process of this one ends within a second; if the system can't say, it's waited for without a word."""
-    try:
-        watched = os.pidfd_open(process)
-    except OSError:
-        return True
-    try:
-        return bool(select.select([watched], [], [], PATIENCE)[0])
-    finally:
-        os.close(watched)
 
 
 def fault_lines(text: str) -> list[FaultLine]:
@@ -212,7 +158,7 @@ def fault_lines(text: str) -> list[FaultLine]:
     return [FaultLine(w[1][1:], w[4][1:]) for w in words if len(w) == 5 and w[0] == "fault"]
 
 
-def shown(program: str) -> str:
-    """The path of the program, in the repository from its root on."""
-    inside = os.path.relpath(program, ROOT)
-    return program if inside.startswith("..") else inside
+def shown(path: str) -> str:
+    """The path of a program, in the repository from its root on."""
+    inside = os.path.relpath(path, ROOT)
+    return path if inside.startswith("..") else inside

@@ -8,8 +8,7 @@ from typing import Callable
 from nllc_tools.base.sentences import plural
 
 WIDTH = 30
-PATIENCE = 1.0
-PACE = 0.3
+PATIENCE, PACE = 1.0, 0.3
 
 
 class Progress:
@@ -35,9 +34,7 @@ class Progress:
         if self.ended.wait(PATIENCE):
             return
         while not self.ended.wait(PACE):
-            seconds = time.monotonic() - self.began
-            sys.stderr.write(f"\r{self.words()} ({seconds:.0f} s)\033[K")
-            sys.stderr.flush()
+            print(f"\r{self.words()} ({time.monotonic() - self.began:.0f} s)\033[K", end="", file=sys.stderr, flush=True)
         sys.stderr.write("\r\033[K")
 
 
@@ -45,12 +42,9 @@ class Bar:
     """How many of some functions are done, in words for a line of progress."""
 
     def __init__(self, total: int):
-        self.total = total
-        self.done = 0
-        self.faults = 0
+        self.total, self.done, self.faults = total, 0, 0
 
     def step(self, faults: int) -> None:
-        """One more function is done."""
         self.done += 1
         self.faults += faults
 

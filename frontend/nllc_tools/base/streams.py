@@ -17,27 +17,19 @@ from nllc_tools.base.sentences import visible
 
 # By what a stream refuses to take what is written.
 OF_STREAMS = (errno.EPIPE, errno.ENOSPC, errno.EDQUOT, errno.EFBIG, errno.EIO, errno.EBADF)
-# How a person writes them without the letter.
-PLAIN = {"→": "->", "…": "..", "–": "-", "’": "'", "‹": "<", "›": ">"}
+PLAIN = {"→": "->", "…": "..", "–": "-", "’": "'", "‹": "<", "›": ">"}    # as a person writes them
 
 
 def plain(error: UnicodeError) -> tuple[str, int]:
     """What stands for letters that an encoding lacks."""
     if not isinstance(error, UnicodeEncodeError):
         raise error
-    letters = error.object[error.start:error.end]
-    return "".join(PLAIN.get(letter, letter.encode("ascii", "backslashreplace").decode())
-                   for letter in letters), error.end
+    letters = (PLAIN.get(letter, letter.encode("ascii", "backslashreplace").decode())
+               for letter in error.object[error.start:error.end])
+    return "".join(letters), error.end
 
 
 codecs.register_error("plain", plain)
-
-
-def any_locale() -> None:
-    """Has letters that the locale lacks written otherwise."""
-    for stream in (sys.stdout, sys.stderr):
-        if isinstance(stream, TextIOWrapper):
-            stream.reconfigure(errors="plain")
 
 
 def guarded(word: str, work: Callable[[], int]) -> int:
@@ -46,10 +38,12 @@ def guarded(word: str, work: Callable[[], int]) -> int:
     sys.stderr = sys.stderr or open(os.devnull, "w", encoding="utf-8")    # it is None where it was closed
     if sys.stdout is None:
         return tell(f"{program}: standard output can't be written: it is closed", 3)
-    end_by_signals()
-    any_locale()
+    prepare()
     try:
-        status = ended(work)
+        try:
+            status = work()
+        except SystemExit as end:    # after help, or of a word that isn't known
+            status = end.code if isinstance(end.code, int) else int(bool(end.code))
         sys.stdout.flush()
         return status
     except Refusal as refusal:
@@ -59,36 +53,33 @@ def guarded(word: str, work: Callable[[], int]) -> int:
     except MemoryError:
         return tell(f"{program}: out of memory", 3)
     except OSError as error:
-        return unwritten(program, error)
+        return tell(f"{program}: {refused(error)}", 3)
 
 
 def tell(line: str, status: int) -> int:
     """Says a line on standard error, if that can be written; the status."""
     with contextlib.suppress(OSError):
-        sys.stderr.write(line + "\n")
-        sys.stderr.flush()
+        print(line, file=sys.stderr, flush=True)
     return status
 
 
-def end_by_signals() -> None:
-    """Has a signal end the work as Ctrl-C does, so that what is half-written is taken away."""
+def prepare() -> None:
+    """Has letters that the locale lacks written otherwise; and a signal end the work as Ctrl-C does.
+
+    So what is half-written is taken away.
+    """
+    for stream in (sys.stdout, sys.stderr):
+        if isinstance(stream, TextIOWrapper):
+            stream.reconfigure(errors="plain")
     for number in (signal.SIGTERM, signal.SIGHUP):
         if signal.getsignal(number) == signal.SIG_DFL:    # it is ignored under nohup
             signal.signal(number, signal.default_int_handler)
 
 
-def ended(work: Callable[[], int]) -> int:
-    """The status of the work, also where it ends with help or a word that isn't known."""
-    try:
-        return work()
-    except SystemExit as end:
-        return end.code if isinstance(end.code, int) else int(bool(end.code))
-
-
-def unwritten(program: str, error: OSError) -> int:
-    """Says in one line that standard output can't be written, or what else the system refused; the status."""
+def refused(error: OSError) -> str:
+    """That standard output can't be written, or what else the system refused."""
     if error.filename is not None or error.errno not in OF_STREAMS:
         where = f"{visible(str(error.filename))}: " if error.filename is not None else ""
-        return tell(f"{program}: {where}{error.strerror or error}", 3)
+        return f"{where}{error.strerror or error}"
     os.dup2(os.open(os.devnull, os.O_WRONLY), 1)    # what is still to be written goes there
-    return tell(f"{program}: standard output can't be written: {error.strerror}", 3)
+    return f"standard output can't be written: {error.strerror}"

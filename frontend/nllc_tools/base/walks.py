@@ -12,17 +12,19 @@ def reached(begins: Iterable[Thing], onward: Callable[[Thing], Iterable[Thing]])
     found = set(begins)
     todo = list(found)
     while todo:
-        for one in onward(todo.pop()):
-            if one not in found:
-                found.add(one)
-                todo.append(one)
+        new = set(onward(todo.pop())) - found
+        found |= new
+        todo += new
     return found
 
 
-def shortest(begin: Thing, onward: Callable[[Thing], Iterable[tuple[Thing, Step]]]) -> dict[Thing, Optional[Step]]:
-    """For each thing that a walk comes to the last step of a shortest one, of several the first; None for the beginning."""
-    came_by: dict[Thing, Optional[Step]] = {begin: None}
-    todo = deque([begin])
+def shortest(begins: Iterable[Thing], onward: Callable[[Thing], Iterable[tuple[Thing, Step]]]) -> dict[Thing, Optional[Step]]:
+    """For each thing that a walk comes to, the nearest first, the last step of a shortest one, of several the first.
+
+    It is None for those with which walks begin.
+    """
+    came_by: dict[Thing, Optional[Step]] = dict.fromkeys(begins)
+    todo = deque(came_by)
     while todo:
         for one, step in onward(todo.popleft()):
             if one not in came_by:

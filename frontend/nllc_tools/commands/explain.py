@@ -56,7 +56,7 @@ def explain(path):
 
 def check(text):
     """The status of `nllc check`, what it prints, and the line in which it refuses."""
-    program = nllc.program_of(nllc.find()).path
+    program = nllc.program().path
     with tempfile.TemporaryDirectory(prefix="nllc-explain.") as folder:
         copy = os.path.join(folder, "text")
         with open(copy, "wb") as file:

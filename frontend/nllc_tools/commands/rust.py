@@ -149,7 +149,7 @@ def answers_of(asked: argparse.Namespace, functions: list[Function], has_page: b
 
 def find_program() -> None:
     """Finds the program once, for all functions."""
-    nllc.program_of(nllc.find())
+    nllc.program()
 
 
 def answer_finally(one: tuple[Function, Any], **how: bool) -> Answer:

@@ -31,7 +31,7 @@ def main(arguments):
 
 def run(command, arguments):
     words = read_words(arguments)
-    program = nllc.program_of(nllc.find()).path
+    program = nllc.program().path
     if len(words.files) > 1 and command != "replay" and not advice(command, words):
         return several(program, command, words)
     if any(map(is_rust, words.files)):

@@ -86,7 +86,7 @@ class Blame:
                 yield from ((reason.sub, reason) for reason in self.onwards.get(region, ())
                             if with_opaque or reason.category != "OpaqueType")
 
-        return shortest(begin, onward)
+        return shortest([begin], onward)
 
     def named(self, chain: Chain) -> Reason:
         """The constraint of a chain that rustc names."""

@@ -38,7 +38,7 @@ class Inside:
         goal = self.regions.find(region)
         if not self.regions.is_universal(goal):
             return []
-        came_by = shortest(region, lambda one: ((reason.sub, reason) for reason in self.onwards.get(one, ())))
+        came_by = shortest([region], lambda one: ((reason.sub, reason) for reason in self.onwards.get(one, ())))
         return backwards(came_by, goal, lambda reason: reason.sup)[::-1]
 
 

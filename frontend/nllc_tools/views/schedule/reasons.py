@@ -72,7 +72,7 @@ def walks(facts, at, inside):
         return dict.fromkeys(inside)
     if at not in inside:
         return {}
-    return shortest(at, lambda element: ((following, element) for following in steps(facts, element) if following in inside))
+    return shortest([at], lambda element: ((following, element) for following in steps(facts, element) if following in inside))
 
 
 def walk_to(facts, at, inside, element):
