@@ -101,7 +101,7 @@ class Labels(unittest.TestCase):
         refused = ["# rustc 3:5: lifetime may not live long enough", "# label 3:5-3:9: `'b` must outlive `'a`"]
         content = replace(with_fault(*FOLDED, *refused), faults=[])
         self.assertEqual(start(content), {"region": content.facts.names.index("r4")})
-        content = with_fault(*FOLDED, refused[0])._replace(faults=[])
+        content = replace(with_fault(*FOLDED, refused[0]), faults=[])
         self.assertEqual(start(content), {})
 
     def test_a_fault(self):
