@@ -153,7 +153,7 @@ class Differences(unittest.TestCase):
         content = content_of(support.golden_text("differ", function))
         self.assertFalse(content.faults or content.loans, name)
         return [(line, words.split(":")[0], plain(why))
-                for line, _, words, why in differences.differences(content)]
+                for (line, _, words, *_), why in differences.differences(content)]
 
     def test_problem_case_3(self):
         for line, code, why in self.told("get_default"):

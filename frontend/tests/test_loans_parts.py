@@ -262,7 +262,7 @@ class Loans(unittest.TestCase):
         self.assertEqual(list(differences.further(self.content(*TEXT, here, label))), [])
         self.assertEqual(list(differences.further(self.content(*TEXT, there, label))), [])
         [found] = differences.further(self.content(*TEXT, here, label, there, label))
-        self.assertEqual(found[:3], (3, 1, "E0515: cannot return"))
+        self.assertEqual(found.error[:3], (3, 1, "E0515: cannot return"))
 
     def test_closures_that_borrow_uniquely(self):
         for kind, way, code in (("unique", "unique", "E0524"), ("mut", "unique", "E0500"),
@@ -279,7 +279,7 @@ class Loans(unittest.TestCase):
     def test_two_lines(self):
         content = self.content(*TEXT)
         [one] = findings.all_of(content)
-        self.assertEqual(finding_lines.lines(content, one), [
+        self.assertEqual(finding_lines.lines(content.path, one), [
             "a.rs:2:5: E0506: `a` is assigned to, and line 1 has borrowed it as mutable",
             "    the loan of line 1 (`&a`) is live: its region `'x` holds line 2, since the same line "
             "uses it",

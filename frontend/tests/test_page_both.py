@@ -1,10 +1,10 @@
 """Constraints at all points in texts and on pages, and both answers side by side."""
 
-import argparse
 import os
 import re
 import unittest
 import unittest.mock
+from dataclasses import replace
 
 from facts_support import stored_texts
 from page_support import EXAMPLES, Folder, file_bytes, random_text, reference, solved, text
@@ -14,9 +14,8 @@ from nllc_tools.base import nllc
 from nllc_tools.base.refusal import Refusal
 from nllc_tools.base.sentences import plain
 from nllc_tools.judge import two_answers
-from nllc_tools.judge.answer import explained
 from nllc_tools.judge.chain_sentences import step_brief, step_sentence
-from nllc_tools.judge.content import Content
+from nllc_tools.judge.content import Content, explained
 from nllc_tools.model.chains import chain, check
 from nllc_tools.model.facts import ALL
 from nllc_tools.model.faults import faults
@@ -39,7 +38,7 @@ def content_of(data):
 
 
 def with_both(data):
-    return content_of(data)._replace(everywhere=content_of(widening.at_all_points(data)))
+    return replace(content_of(data), everywhere=content_of(widening.at_all_points(data)))
 
 
 class Reading(unittest.TestCase):
@@ -101,8 +100,8 @@ class Both(unittest.TestCase):
         content = with_both(file_bytes(EXAMPLES, "overwritten.facts"))
         self.assertEqual(two_answers.counted(content), "no fault")
         self.assertEqual(two_answers.counted(content.everywhere), "1 fault")
-        self.assertEqual([content.facts.names[r] for r in two_answers.differing(content)], ["a", "p"])
-        told = list(second_answer.lines(content))
+        self.assertEqual([content.facts.names[r] for r in two_answers.differing(content, content.everywhere)], ["a", "p"])
+        told = list(second_answer.lines(content, content.everywhere))
         self.assertEqual(told[0], "with each constraint at all points: 1 fault, in place of no fault")
         made = page(content)
         self.assertIn('<section class="answers"', made)
@@ -115,7 +114,7 @@ class Both(unittest.TestCase):
 
     def test_both_the_same(self):
         content = with_both(text(1, "universal 'a", "return 0", "constraint 'static 'a 0"))
-        self.assertEqual(list(second_answer.lines(content)), [])
+        self.assertEqual(list(second_answer.lines(content, content.everywhere)), [])
         self.assertIn("Each region holds the same in both.", answers_part.both(content))
 
     def test_no_second_answer(self):
@@ -141,10 +140,9 @@ class Command(Folder):
         path = self.write("overwritten.facts", text)
         self.enterContext(unittest.mock.patch.dict("os.environ", {"NLLC": self.path("nllc")}))
         said = answers.answered(path, text, False, everywhere=True)
-        self.assertEqual(said["faults"], 0)
-        self.assertEqual(said["everywhere"][0],
-                         "with each constraint at all points: 1 fault, in place of no fault")
-        self.assertEqual(answers.answered(path, text, False)["everywhere"], [])
+        self.assertEqual(said.faults, 0)
+        self.assertEqual(said.lines[0], "with each constraint at all points: 1 fault, in place of no fault")
+        self.assertEqual(answers.answered(path, text, False).lines, [])
 
     def test_a_page_where_something_is_told(self):
         from nllc_tools.commands import answers
@@ -152,28 +150,30 @@ class Command(Folder):
         for name, has_page in (("running", False), ("as_static", True)):
             text = file_bytes(EXAMPLES, f"{name}.facts")
             said = answers.answered(self.write(f"{name}.facts", text), text, False, has_page=False)
-            self.assertEqual("page" in said, has_page)
+            self.assertEqual(bool(said.page), has_page)
             self.assertEqual(os.path.exists(self.path(f"{name}.html")), has_page)
 
     def test_of_which_nothing_is_told_is_known_without_values(self):
         """Of all stored texts: what is said of one without reading it is what is said of it when it is read."""
         from errors_support import quick_report
         from nllc_tools.base import nllc
-        from nllc_tools.commands import answers
-        from nllc_tools.judge import answer, silence
+        from nllc_tools.judge import silence
+        from nllc_tools.judge.content import content_of
+        from nllc_tools.judge.summary import silent, summary_of
         self.enterContext(unittest.mock.patch.object(nllc, "run", quick_report))
         self.enterContext(unittest.mock.patch.object(nllc, "has_faults", lambda text: bool(quick_report(text).faults)))
-        silent = 0
+        count = 0
         for path, text in all_texts():
             with self.subTest(path=path):
-                asked = argparse.Namespace(facts=path, source=None, values=None)
-                said = answers.answer(answer.content_from(text, asked), False)
-                is_quiet = silence.is_silent(text)[0]
-                silent += is_quiet
-                self.assertTrue(not is_quiet or silence.silent(text) == said)
-                is_told = any(said[kind] for kind in ("faults", "loans", "moves", "differences", "further", "refused"))
-                self.assertEqual(is_quiet, not is_told and not said["needs"])
-        self.assertGreater(silent, 80)
+                content = content_of(path, text)
+                said = summary_of(content)
+                is_quiet = silence.silence_of(text).is_silent
+                count += is_quiet
+                if is_quiet:
+                    self.assertEqual(replace(silent(silence.facts_of(text)), path=said.path), said)
+                is_told = said.count() or said.differences or said.further or said.refused
+                self.assertEqual(is_quiet, not is_told and not content.needs)
+        self.assertGreater(count, 80)
 
 
 def all_texts():

@@ -15,6 +15,7 @@ from page_support import ROOT, SAMPLES, Folder, file_bytes, text
 from nllc_tools.base import nllc
 from nllc_tools.commands import answers
 from nllc_tools.commands.page import main
+from nllc_tools.views.terminal import finding_lines
 
 REFERENCE = os.path.join(ROOT, "check", "reference", "reference.py")
 
@@ -77,14 +78,15 @@ class Commands(Folder):
     # `'b: 'a`"; the second is docs/FROM-RUST.md's "give both arguments one lifetime". With either one rustc takes pick.rs. The third
     # is the one that is left where the caller can promise neither.
     def test_faults_in_words(self):
-        self.assertEqual(self.answered()["lines"], [
+        said = self.answered()
+        self.assertEqual(finding_lines.lines(said.path, said.findings[0].finding), [
             f"{self.folder}/pick.rs:7: `'b` must outlive `'a`, but the signature doesn't declare it",
             "    data that lives for `'b` flows into `'a` at line 7 (`best = second;`) and line 9 (`best`)",
             "    help: consider adding the bound `'b: 'a` to the signature; or write `'a` in place of `'b`; "
             "or return an owned value"])
 
     def test_faults_step_by_step(self):
-        self.assertEqual(self.answered()["explained"], [
+        self.assertEqual(self.answered().lines, [
             "`'b` must outlive `'a`, but the signature doesn't declare it:",
             "    `end('a)` reaches",
             "    to `'best`, the type of best: after `_0 = copy best` (line 9), inside `'a` by 8",

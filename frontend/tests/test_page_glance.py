@@ -2,6 +2,7 @@
 
 import re
 import unittest
+from dataclasses import replace
 
 import page_support
 from nllc_tools.base.sentences import Code, plain
@@ -98,9 +99,9 @@ class Labels(unittest.TestCase):
     def test_the_variable_is_lit_at_first(self):
         """Where rustc alone has one lifetime come to another: the first variable on the way."""
         refused = ["# rustc 3:5: lifetime may not live long enough", "# label 3:5-3:9: `'b` must outlive `'a`"]
-        content = with_fault(*FOLDED, *refused)._replace(faults=[])
+        content = replace(with_fault(*FOLDED, *refused), faults=[])
         self.assertEqual(start(content), {"region": content.facts.names.index("r4")})
-        content = with_fault(*FOLDED, refused[0])._replace(faults=[])
+        content = replace(with_fault(*FOLDED, refused[0]), faults=[])
         self.assertEqual(start(content), {})
 
     def test_a_fault(self):
@@ -203,7 +204,7 @@ class Advice(unittest.TestCase):
 
 class More(unittest.TestCase):
     def test_what_rustc_says_beyond_the_error(self):
-        said = finding.Telling(None, "", [], [], None, [
+        said = finding.Finding(None, "", [], [], None, [
             ["help: ", "consider ", Code("'a")], ["invariant: ", "behind ", Code("&mut")], ["line 3 with names: ", Code("x")]])
         self.assertEqual(re.findall(r'<p class="more">(.*?)</p>', more_part(said)),
                          ["<b>rustc’s help</b>: consider <code>&#x27;a</code>.",
@@ -246,12 +247,12 @@ class Heads(unittest.TestCase):
         self.assertIn("<title>grow (g.rs) – nllc</title>", made)
         self.assertIn('<link rel="icon" href="data:image/svg+xml,%3Csvg', made)
         self.assertNotIn('class="back"', made)
-        self.assertIn('<a class="back" href="./index.html">', page(content._replace(index="index.html")))
+        self.assertIn('<a class="back" href="./index.html">', page(replace(content, index="index.html")))
 
     def test_points_of_a_mir_text_have_their_names(self):
         content = content_of(*LOAN)
         content.facts.point_names.update({point: f"bb0/{point}" for point in range(5)})
-        made = page(content._replace(loans=list(loan_faults.loan_faults(content.facts, content.values))))
+        made = page(replace(content, loans=loan_faults.loan_faults(content.facts, content.values)))
         self.assertIn("<title>point bb0/2: v = const 1</title>", made)
         self.assertIn('"names":["bb0/0","bb0/1","bb0/2","bb0/3","bb0/4"]', made)
         self.assertRegex(made, r'class="point" data-p="2" tabindex="-1">bb0/2<')

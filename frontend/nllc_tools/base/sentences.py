@@ -23,6 +23,9 @@ class Code(str):
     __slots__ = ()
 
 
+Sentence = list[str]
+
+
 def plain(parts: Iterable[str]) -> str:
     """The sentence for a terminal."""
     return "".join(f"`{part}`" if isinstance(part, Code) else part for part in parts)

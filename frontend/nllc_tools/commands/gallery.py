@@ -6,7 +6,7 @@ import os
 import re
 import sys
 import tempfile
-from argparse import Namespace
+from dataclasses import replace
 
 from nllc_tools.base import files
 from nllc_tools.base.command_line import called
@@ -15,7 +15,7 @@ from nllc_tools.base.refusal import Refusal
 from nllc_tools.base.streams import guarded
 from nllc_tools.commands import schedule, texts
 from nllc_tools.commands.facts import main as make_facts
-from nllc_tools.judge import answer
+from nllc_tools.judge.content import content_of
 from nllc_tools.judge.names import name_of
 from nllc_tools.views.gallery.cards import Shown, card_part, of_functions, of_text
 from nllc_tools.views.gallery.page import section, whole
@@ -63,7 +63,7 @@ def make(folder):
     cards["Bodies written as MIR"] = [of_text(mir_text(name), *told) for name, told in MIR_TEXTS.items()]
     made = {one.file: one.content for its in cards.values() for card in its for one in card.shown}
     for name, content in made.items():
-        files.write(os.path.join(folder, name), page(content._replace(index="index.html")))
+        files.write(os.path.join(folder, name), page(replace(content, index="index.html")))
     sections = [section(title, "".join(map(card_part, its))) for title, its in cards.items()]
     sections.append(section("Runs with several owners", "".join(
         schedule_card(folder, name, said) for name, said in SCHEDULES.items())))
@@ -80,8 +80,7 @@ def functions(name):
         with contextlib.redirect_stdout(io.StringIO()), contextlib.redirect_stderr(io.StringIO()) as said:
             if make_facts([path, "-o", room]):
                 raise Refusal(f"{path} has no facts texts: {said.getvalue().strip().splitlines()[-1]}", 3)
-        contents = [answer.content_of(Namespace(facts=os.path.join(room, name), source=None, values=None))
-                    for name in sorted(os.listdir(room))]
+        contents = [content_of(path, files.read_bytes(path)) for path in (os.path.join(room, name) for name in sorted(os.listdir(room)))]
     contents.sort(key=lambda content: (content.source.first, content.facts.remarks.function))
     return [Shown(file_name(content.facts.remarks.function), name_of(content), content) for content in contents]
 

@@ -3,6 +3,7 @@
 import os
 import sys
 import webbrowser
+from dataclasses import replace
 
 from nllc_tools.base import files
 from nllc_tools.base.command_line import Parser
@@ -48,7 +49,7 @@ def run(asked):
         out = os.path.join(asked.folder, name)
         if files.same_file(path, out):
             raise Refusal(f"the page would be written over {path}; name another folder by -o FOLDER")
-        files.write(out, page(content_of(*read(path))._replace(index=NAME)))
+        files.write(out, page(replace(content_of(*read(path)), index=NAME)))
         print(out)
         paths.append(out)
     paths.append(write_index(asked.folder, [os.path.basename(path) for path in paths], with_older=True))

@@ -24,7 +24,7 @@ from nllc_tools.rustc.functions import Checked, Function
 from nllc_tools.texts.facts.writer import facts_text
 from nllc_tools.views.html.folder import write_index
 from nllc_tools.views.json import diagnostics
-from nllc_tools.views.terminal.answers import Answer, outermost, tell_silent, told, verdict
+from nllc_tools.views.terminal.answers import Answer, Shown, outermost, places_of, tell_silent, told, verdict
 
 REFUSED = 4     # the status where there is no fault, and rustc refuses all the same
 MOST_PAGES = 200
@@ -92,7 +92,7 @@ def answer_for_people(asked: argparse.Namespace, room: str) -> int:
         sys.stdout.flush()
         show(checked.errors)
     status = tell_unanswered(asked.path, checked.unanswered)
-    tell_pages(asked, folder, [answer.said["page"] for answer in answers if answer.said.get("page")])
+    tell_pages(asked, folder, [answer.said.page for answer in answers if answer.said and answer.said.page])
     return status_of(checked, answers, status)
 
 
@@ -103,7 +103,7 @@ def answer_in_json(asked: argparse.Namespace, room: str) -> int:
     make_ready(folder)
     with mir_texts(asked, folder) as by_mir:
         answers = answers_of(asked, checked.functions, asked.all_pages and asked.out is not None, by_mir)
-    for line in diagnostics.lines(checked, [answer.said for answer in answers]):
+    for line in diagnostics.lines(checked, [answer.said for answer in answers if answer.said]):
         print(line)
     if not checked.functions:
         raise without_functions(asked.path, checked)
@@ -143,7 +143,7 @@ def answers_of(asked: argparse.Namespace, functions: list[Function], has_page: b
     with Progress(bar.words):
         for answer in side_by_side(work, [(one, by_mir.get(one.path)) for one in functions], few=1):
             answers.append(answer)
-            bar.step(answer.count())
+            bar.step(answer.said.count() if answer.said else 0)
     return answers
 
 
@@ -178,7 +178,7 @@ def answer_one(one: tuple[Function, Any], in_full: bool, everywhere: bool, has_p
         said = answered(function.path, text.encode(), in_full, everywhere, has_page)
     except Refusal as refusal:
         return Answer(refusal.status, str(refusal))
-    return Answer(1 if said["faults"] or said["loans"] or said["moves"] else 0, said=said)
+    return Answer(1 if said.count() else 0, said=said)
 
 
 def tell_pages(asked: argparse.Namespace, folder: str, pages: list[str]) -> None:
@@ -193,20 +193,21 @@ def tell_pages(asked: argparse.Namespace, folder: str, pages: list[str]) -> None
 
 def tell_all(checked: Checked, answers: list[Answer]) -> None:
     """The lines of all functions that have any, the names of the others, and what else rustc refuses."""
-    places = {(answer.said["source"], *place) for answer in answers for place in answer.said.get("places", ())}
-    silent, loud, shown = [], set(), set()
+    summaries = [answer.said for answer in answers if answer.said]
+    places = {place for said in summaries for place in places_of(said)}
+    shown: set[Shown] = set()
+    silent, loud = [], set()
     for function, answer in zip(checked.functions, answers):
-        lines = [answer.failure] if answer.failure else told(answer.said, places, checked.errors, shown)
+        lines = told(answer.said, places, checked.errors, shown) if answer.said else [answer.failure]
         if lines:
-            print(f"{answer.said.get('name', function.name)}: "
-                  f"{'no answer' if answer.failure else verdict(answer.said)}")
+            print(f"{answer.said.name}: {verdict(answer.said)}" if answer.said else f"{function.name}: no answer")
             loud.add(outermost(function.name))
-        else:
-            silent.append((function.dump.is_closure, function.name, answer.said["name"]))
+        elif answer.said:
+            silent.append((function.dump.is_closure, function.name, answer.said.name))
         for line in lines:
             print(f"  {line}")
     tell_silent([(is_closure, name) for is_closure, function, name in silent if outermost(function) not in loud])
-    told_of = {(answer.said["source"], *error) for answer in answers for error in answer.said.get("errors", ())}
+    told_of = {(said.source, *error[:3]) for said in summaries for error in said.errors}
     for error in checked.errors:
         if error.places and (error.path, error.line, error.column, " ".join(error.words().split())) not in told_of:
             print(f"{error.where()}: {version()}: {error.words()}\n"

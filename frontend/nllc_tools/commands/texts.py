@@ -1,49 +1,43 @@
 """What a page has, of a facts text or a MIR text."""
 
-import argparse
 import os
 import tempfile
 
 from nllc_tools.base import world_program
 from nllc_tools.base.command_line import called
 from nllc_tools.base.refusal import Refusal
-from nllc_tools.judge import answer
+from nllc_tools.judge import content
 from nllc_tools.judge.content import Content
-from nllc_tools.model import faults
+from nllc_tools.model.facts import Facts
 from nllc_tools.texts import source
 from nllc_tools.texts.facts.reader import is_facts_text
-from nllc_tools.texts.facts.values import read_values
 from nllc_tools.texts.mir.problem import is_mir_text, problem_in
 from nllc_tools.texts.mir.remarks import remarks_of
 from nllc_tools.texts.source import Source
 from nllc_tools.views.html.standings import STANDINGS
 
 
-def content_of(path, text, most=answer.MOST_POINTS):
+def content_of(path: str, text: bytes, most: float = content.MOST_POINTS) -> Content:
     if is_mir_text(text):
         return content_of_mir(path, text, most)
     if path.endswith(".rs") and not is_facts_text(text):
         raise Refusal(f"{path} is a Rust file: {called('rust')} {path} makes its texts and pages")
-    return answer.content_from(text, argparse.Namespace(facts=path, source=None, values=None), most)
+    return content.content_of(path, text, most)
 
 
-def content_of_mir(path, text, most):
+def content_of_mir(path: str, text: bytes, most: float) -> Content:
     """The content of a MIR text's page: its source is the text itself."""
-    report, told, origin, standing = answer.report_of(path, text)
+    report = content.report_of(path, text)
     facts, problem = problem_of(path, text)
     facts.remarks = remarks_of(text.decode("utf-8"), facts.point_names)
-    answer.look_small(path, facts, most)
-    values = read_values(report, facts, origin)
-    found = faults.faults(facts, values)
-    if told != [(facts.names[a], facts.names[b]) for a, b in found]:
-        raise Refusal(f"the faults of `{origin} check` aren't those of `{origin} values`", 3)
+    values, found = content.judged(path, facts, report, most)
     lines = text.decode("utf-8").removesuffix("\n").split("\n")
     shown = Source(path, 1, lines) if len(text) <= source.MOST_BYTES else None
-    explained = answer.explained(facts, values, found, origin)
-    return Content(facts, values, explained, path, shown, origin, standing, problem=problem)
+    return Content(facts, values, content.explained(facts, values, found, report.program), path, shown, report.program,
+                   report.standing, problem=problem)
 
 
-def problem_of(path, text):
+def problem_of(path: str, text: bytes) -> tuple[Facts, str]:
     """The problem of a MIR text, and by which program, in words."""
     with tempfile.TemporaryDirectory(prefix="nll-page.") as folder:
         schedule, copy = os.path.join(folder, "schedule"), os.path.join(folder, "text")

@@ -1,35 +1,27 @@
-"""Faults, chains and places in sentences.
+"""Faults, chains and places in sentences."""
 
-A sentence is a list of strings; those that are `Code` are shown as code. So text that comes from
-outside is never read as markup.
-"""
+from typing import Sequence
 
 from nllc_tools.base.grouping import spans
-from nllc_tools.base.sentences import joined
+from nllc_tools.base.sentences import Sentence, joined
 from nllc_tools.judge.asking_statements import MOST_ORIGINS, is_everywhere, origins, statement
-from nllc_tools.model.facts import ALL
+from nllc_tools.model.chains import Step
+from nllc_tools.model.facts import ALL, Constraint, Facts
 from nllc_tools.model.region_names import end, tick
 
 
-def fault_head(facts, sup, sub):
-    return [tick(facts, sup), " must outlive ", tick(facts, sub),
-            ", but the signature doesn't declare it"]
+def fault_head(facts: Facts, sup: int, sub: int) -> Sentence:
+    return [tick(facts, sup), " must outlive ", tick(facts, sub), ", but the signature doesn't declare it"]
 
 
-def beginning(facts, universal):
+def beginning(facts: Facts, universal: int) -> Sentence:
     """The sentence before the first step."""
-    name = facts.names[universal]
-    lasts = "lasts for ever" if name == "static" else \
-        "lasts after the return for as long as the caller likes"
-    return [tick(facts, universal), f" {lasts}: that is the element ", end(facts, universal),
-            ", which ", tick(facts, universal), " holds from the start."]
+    name = tick(facts, universal)
+    lasts = "lasts for ever" if name == "'static" else "lasts after the return for as long as the caller likes"
+    return [name, f" {lasts}: that is the element ", end(facts, universal), ", which ", name, " holds from the start."]
 
 
-def step_head(facts, step, universal):
-    return [end(facts, universal), " reaches ", tick(facts, step.constraint.sup)]
-
-
-def region_words(facts, region, most=90):
+def region_words(facts: Facts, region: int, most: int = 90) -> str:
     """What the region is, by its remark, cut where it is long."""
     words = facts.remarks.region(facts.names[region]).text
     if not words and facts.names[region] == "static":
@@ -37,34 +29,29 @@ def region_words(facts, region, most=90):
     return words if len(words) <= most else words[:most - 1] + "…"
 
 
-def step_sentence(facts, step, universal):
+def step_sentence(facts: Facts, step: Step, universal: int) -> Sentence:
     """Why this constraint, and the walk, bring the end to the larger region."""
-    sup, sub, at = step.constraint.sup, step.constraint.sub, step.constraint.at
+    sup, sub, at = tick(facts, step.constraint.sup), tick(facts, step.constraint.sub), step.constraint.at
+    asked = [*reason(facts, step.constraint), sup, " must hold all that "]
     if at == ALL:
-        return [*reason(facts, step.constraint), tick(facts, sup), " must hold all that ", tick(facts, sub),
-                " holds, wherever that is, and so ", end(facts, universal), "."]
-    return [*reason(facts, step.constraint), tick(facts, sup),
-            " must hold all that is reached inside ",
-            tick(facts, sub), f" from point {facts.point_name(at)} on. ", *walk_words(facts, step, universal),
-            "; so ",
-            tick(facts, sup), " holds it too."]
+        return [*asked, sub, " holds, wherever that is, and so ", end(facts, universal), "."]
+    return [*asked, "is reached inside ", sub, f" from point {facts.point_name(at)} on. ", *walk_words(facts, step, universal),
+            "; so ", sup, " holds it too."]
 
 
-def step_brief(facts, step):
+def step_brief(facts: Facts, step: Step) -> Sentence:
     """The step in one line of a terminal."""
-    sup, sub = step.constraint.sup, step.constraint.sub
+    sup, sub, at = step.constraint
     what = region_words(facts, sup)
-    asked = reason(facts, step.constraint)[:-1] or [f"From point {facts.point_name(step.constraint.at)} on"]
+    first, *asked = reason(facts, step.constraint)[:-1] or [f"From point {facts.point_name(at)} on"]
     way = [", inside ", tick(facts, sub), f" by {walk_text(facts, step.walk)}"] if step.walk else []
-    return ["to ", tick(facts, sup), f", {what}: " if what else ": ",
-            asked[0][0].lower() + asked[0][1:], *asked[1:], *way]
+    return ["to ", tick(facts, sup), f", {what}: " if what else ": ", first[0].lower() + first[1:], *asked, *way]
 
 
-def reason(facts, constraint):
+def reason(facts: Facts, constraint: Constraint) -> Sentence:
     """The statements that ask for it, where something is known of them."""
     if is_everywhere(facts, constraint):
-        return ["At every point ", tick(facts, constraint.sup), " must outlive ",
-                tick(facts, constraint.sub), ": "]
+        return ["At every point ", tick(facts, constraint.sup), " must outlive ", tick(facts, constraint.sub), ": "]
     points = origins(facts, constraint)
     if not any(any(facts.remarks.point(p)) for p in points):
         return []
@@ -73,27 +60,23 @@ def reason(facts, constraint):
     return ["After ", *joined([statement(facts, p) for p in points], " or "), ", "]
 
 
-def walk_words(facts, step, universal):
+def walk_words(facts: Facts, step: Step, universal: int) -> Sentence:
     """How the walk comes to a return and to the end."""
-    points = step.walk
-    sub = tick(facts, step.constraint.sub)
+    sub, last = tick(facts, step.constraint.sub), step.walk[-1]
+    leaves = f"the function {'unwinds' if unwinds(facts, last) else 'returns'}"
     holds = [end(facts, universal), ", which ", sub, " holds"]
-    leaves = "unwinds" if unwinds(facts, points[-1]) else "returns"
-    if len(points) == 1:
-        return [f"The function {leaves} right there, and the walk goes on to ", *holds]
-    return ["Inside ", sub,
-            f" a walk from there ({walk_text(facts, points)}) leads to point {facts.point_name(points[-1])}, where the "
-            "function "
+    if len(step.walk) == 1:
+        return [f"T{leaves[1:]} right there, and the walk goes on to ", *holds]
+    return ["Inside ", sub, f" a walk from there ({walk_text(facts, step.walk)}) leads to point {facts.point_name(last)}, where "
             f"{leaves}, and on to ", *holds]
 
 
-def unwinds(facts, point):
-    """Whether a panic goes out of the function there; that is a return, too, as far as regions go.
-    """
+def unwinds(facts: Facts, point: int) -> bool:
+    """Whether a panic goes out of the function there; that is a return, too, as far as regions go."""
     return facts.remarks.point(point).statement().rstrip(";") in ("resume", "UnwindResume")
 
 
-def walk_text(facts, points, most=7):
+def walk_text(facts: Facts, points: Sequence[int], most: int = 7) -> str:
     """The points with arrows; of long walks the runs of numbers are shortened."""
     name = facts.point_name
     if len(points) <= most:
@@ -102,6 +85,6 @@ def walk_text(facts, points, most=7):
                       else " → ".join(map(name, range(a, b + 1))) for a, b in spans(points))
 
 
-def conclusion(facts, sup, sub):
+def conclusion(facts: Facts, sup: int, sub: int) -> Sentence:
     """What the end in the value means."""
     return ["So ", tick(facts, sup), " would have to last as long as ", tick(facts, sub), ", whatever the caller chooses."]

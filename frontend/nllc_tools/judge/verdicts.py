@@ -2,7 +2,8 @@
 
 from typing import NamedTuple, Optional
 
-from nllc_tools.base import sentences
+from nllc_tools.base.sentences import plural
+from nllc_tools.judge.content import Content
 from nllc_tools.judge.differences import differences, refused
 
 
@@ -14,9 +15,9 @@ class Verdict(NamedTuple):
     rustc: Optional[str]
 
 
-def verdict_of(content):
+def verdict_of(content: Content) -> Verdict:
     """The verdict of a content: `nllc` counts, with rustc's errors beside it."""
-    moves = len(content.facts.remarks.beside.gone)
+    moves = len(content.beside.gone)
     said = counted(len(content.faults), len(content.loans), moves)
     is_refused = bool(content.faults or content.loans or moves)
     other, unjudged = differences(content), refused(content)
@@ -30,17 +31,15 @@ def verdict_of(content):
     return Verdict(kind, said, answer_of_rustc(content))
 
 
-def counted(faults, loans, moves=0):
+def counted(faults: int, loans: int, moves: int = 0) -> str:
     """How many faults, loan errors, and errors of moves and assignments there are, in words."""
-    counts = [sentences.plural(count, noun)
-              for count, noun in ((faults, "fault"), (loans, "loan error"), (moves, "move error")) if count]
+    counts = [plural(count, noun) for count, noun in ((faults, "fault"), (loans, "loan error"), (moves, "move error")) if count]
     return ", ".join(counts) or "no fault"
 
 
-def answer_of_rustc(content):
+def answer_of_rustc(content: Content) -> Optional[str]:
     """The codes of rustc's errors, each once; an error without a code is of lifetimes."""
-    beside = content.facts.remarks.beside
-    if beside.count is None:
+    if content.beside.count is None:
         return None
-    codes = [error.code() or "lifetime error" for error in beside.rustc]
+    codes = [error.code() or "lifetime error" for error in content.beside.rustc]
     return ", ".join(dict.fromkeys(codes)) or "no such error"

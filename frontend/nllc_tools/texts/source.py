@@ -39,10 +39,8 @@ class Source(NamedTuple):
     lines: list
 
 
-def find(facts, facts_path, given):
-    """The path of the source: the given one, or that of the text's remark if it is there."""
-    if given is not None:
-        return given
+def find(facts, facts_path):
+    """The path of the source, that of the text's remark, if it is there."""
     named = facts.remarks.source
     if not named:
         return None

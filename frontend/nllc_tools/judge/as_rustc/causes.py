@@ -1,125 +1,96 @@
 """Why a loan is in force: the region that rustc names for it, and the use."""
 
 import re
-from collections import deque
+from bisect import bisect_left
 from functools import partial
-from typing import NamedTuple, Optional
+from typing import Callable, Optional
 
-from nllc_tools.base.walks import backwards
+from nllc_tools.base.walks import backwards, shortest
+from nllc_tools.judge.faults import Cause
 from nllc_tools.model import chains
-from nllc_tools.model.facts import ALL
-from nllc_tools.model.said import Place
+from nllc_tools.model.chains import Step
+from nllc_tools.model.facts import ALL, Facts
+from nllc_tools.model.values import Values
 
 STATIC = 0
-NUMBERED = re.compile(r"r\d+|_+")      # how regions are called that have no name
-UNWIND = re.compile(r"\bunwind: (bb\d+)|\) -> (bb\d+)$")   # a call that never returns has the second form
+NUMBERED = r"r\d+|_+"      # how regions are called that have no name
+UNWIND = r"\bunwind: (bb\d+)|\) -> (bb\d+)$"   # a call that never returns has the second form
 
 
-class Cause(NamedTuple):
-    """Why the loan's region holds the point, and the steps from there to the loan.
-
-    `region` is live at the point since a variable of it is used (or dropped) at `use`; or it is a
-    universal one, which outlives the function. `place` is that of the use, where the statement's line doesn't tell it: of a
-    macro of another file, of a function that is called, of a use in a closure, or in the line of what goes against the loan.
-    """
-
-    region: int
-    use: Optional[int]
-    is_drop: bool
-    steps: list     # the first one's constraint has `region` at its smaller side
-    place: Optional[Place] = None
-
-    def line(self, facts):
-        """The line of the use, where it is known."""
-        return self.place.line if self.place else facts.remarks.point(self.use).line
-
-
-def why(facts, values, region, point):
+def why(facts: Facts, values: Values, region: int, point: int) -> Cause:
     """The nearest region for whose sake this one holds the point."""
-    by_sup = facts.by_sup
-    came_by = {region: None}
-    todo = deque([region])
-    while todo:
-        sup = todo.popleft()
+    came_by: dict[int, Optional[Step]] = {region: None}
+    nearest = [region]
+    for sup in nearest:
         if facts.is_universal(sup):
             goal = upper_bound(facts, values, region, sup)
             steps = steps_to(came_by, sup) if goal == sup else chains.chain(facts, values, region, goal)
             return Cause(goal, None, False, steps)
-        if point in facts.bases[sup] and not outlives_caller(facts, values, sup):
+        if point in facts.bases[sup] and not ends_in(facts, values, sup):
             return used(facts, sup, point, steps_to(came_by, sup))
-        for constraint in by_sup.get(sup, ()):
+        for constraint in facts.by_sup.get(sup, ()):
             sub = constraint.sub
             if sub not in came_by and values.has(sub, point):
                 onward = chains.ways_to(facts, values.set_of(sub), [point])
                 if constraint.at == ALL or constraint.at in onward:
                     came_by[sub] = chains.step_by(constraint, onward)
-                    todo.append(sub)
-    ends = [element - facts.points for element in values.elements(region)
-            if element >= facts.points]
-    if ends:
-        return Cause(ends[0], None, False, chains.chain(facts, values, region, ends[0]))
-    return used(facts, region, point, [])
+                    nearest.append(sub)
+    ends = ends_in(facts, values, region)
+    return Cause(ends[0], None, False, chains.chain(facts, values, region, ends[0])) if ends \
+        else used(facts, region, point, [])
 
 
-def upper_bound(facts, values, region, nearest):
+def ends_in(facts: Facts, values: Values, region: int) -> list[int]:
+    """The universal regions whose ends a region holds, so that a use says nothing of it."""
+    elements = values.elements(region)
+    return [element - facts.points for element in elements[bisect_left(elements, facts.points):]]
+
+
+def upper_bound(facts: Facts, values: Values, region: int, nearest: int) -> int:
     """The universal region that rustc names of those that a region must outlive: one that outlives all of them.
 
     Where it knows none, it takes the last one that has a name, else the first.
     """
-    ends = [element - facts.points for element in values.elements(region) if element >= facts.points]
-    bound = STATIC if STATIC in ends else None
-    for one in ends if bound is None else ():
-        is_known = bound is not None and (bound, one) in facts.outlives
-        if bound is None or not is_known and ((one, bound) in facts.outlives or not NUMBERED.fullmatch(facts.names[one])):
+    ends = ends_in(facts, values, region) or [nearest]
+    bound = ends[0]
+    for one in ends[1:] if bound != STATIC else ():
+        if (bound, one) not in facts.outlives \
+                and ((one, bound) in facts.outlives or not re.fullmatch(NUMBERED, facts.names[one])):
             bound = one
-    return nearest if bound is None else bound
+    return bound
 
 
-def steps_to(came_by, region):
+def steps_to(came_by: dict[int, Optional[Step]], region: int) -> list[Step]:
     """The steps from the region to the loan's."""
     return backwards(came_by, region, lambda step: step.constraint.sup)
 
 
-def outlives_caller(facts, values, region):
-    """Whether the region holds the end of a universal one, so that a use says nothing of it."""
-    elements = values.elements(region)
-    return bool(elements) and elements[-1] >= facts.points
-
-
-def used(facts, region, point, steps):
+def used(facts: Facts, region: int, point: int, steps: list[Step]) -> Cause:
     """The cause with the nearest point, from this one on, that uses or drops a variable of it.
 
     Ways on which a panic goes out are looked at where no other leads to one, as rustc does.
     """
-    for onwards in (partial(without_unwinding, facts), facts.successors.__getitem__):
-        if found := nearest_use(facts, region, point, onwards):
-            beside, name, use = facts.remarks.beside, facts.names[region], found[0]
+    beside, name, live = facts.remarks.beside, facts.names[region], facts.bases[region]
+    uses = beside.uses.get(name, set())
+    either = live & (uses | beside.drops.get(name, set()))
+    onwards: list[Callable[[int], list[int]]] = [partial(without_unwinding, facts), facts.successors.__getitem__]
+    for onward in onwards:
+        came_by = shortest(point, lambda here: ((one, here) for one in onward(here) if one in live))
+        for use in filter(either.__contains__, came_by):
             place = beside.called.get((use, None)) or beside.captured.get((use, name)) or beside.used.get(use)
-            return Cause(region, *found, steps, place)
+            return Cause(region, use, use not in uses, steps, place)
     return Cause(region, None, False, steps)
 
 
-def nearest_use(facts, region, point, onwards):
-    """The nearest point that uses or drops a variable of the region, and whether that is a drop."""
-    beside, name, live = facts.remarks.beside, facts.names[region], facts.bases[region]
-    seen = {point}
-    todo = deque([point])
-    while todo:
-        here = todo.popleft()
-        for table, is_drop in ((beside.uses, False), (beside.drops, True)):
-            if here in table.get(name, ()) and here in live:
-                return here, is_drop
-        for following in onwards(here):
-            if following in live and following not in seen:
-                seen.add(following)
-                todo.append(following)
-    return None
-
-
-def without_unwinding(facts, point):
+def without_unwinding(facts: Facts, point: int) -> list[int]:
     """The points that follow where nothing panics."""
-    found = UNWIND.search(facts.remarks.point(point).statement())
+    found = re.search(UNWIND, facts.remarks.point(point).statement())
     if not found:
         return facts.successors[point]
-    return [one for one in facts.successors[point]
-            if (facts.remarks.point(one).spot() or ("",))[0] != (found[1] or found[2])]
+    return [one for one in facts.successors[point] if block_of(facts, one) != (found[1] or found[2])]
+
+
+def block_of(facts: Facts, point: int) -> str:
+    """The block of a point; nothing where no remark says it."""
+    spot = facts.remarks.point(point).spot()
+    return spot[0] if spot else ""

@@ -1,13 +1,17 @@
 """A lifetime that would have to outlive another one, in the words of the source."""
 
-from nllc_tools.base import sentences
+from typing import Iterable, NamedTuple, Optional
+
+from nllc_tools.base.grouping import grouped
+from nllc_tools.base.sentences import Sentence, joined
 from nllc_tools.judge import asking_statements
 from nllc_tools.judge.as_rustc import blame
 from nllc_tools.judge.as_rustc.counterparts import are_same, counterpart, pair_of
 from nllc_tools.judge.as_rustc.lifetimes import Lifetimes
-from nllc_tools.judge.findings.finding import HELP, Telling, notes, within
-from nllc_tools.judge.findings.stops import stops_of
-from nllc_tools.model.said import Place
+from nllc_tools.judge.content import Content
+from nllc_tools.judge.faults import Fault
+from nllc_tools.judge.findings.finding import HELP, Finding, notes, stops_of, within
+from nllc_tools.model.said import Error, Place
 
 # What asks for a constraint of a category at its place.
 ASKERS = {"return": "the value returned here", "yield": "the value yielded here", "constant": "this constant",
@@ -18,88 +22,87 @@ ASKERS = {"return": "the value returned here", "yield": "the value yielded here"
           "opaque": "the impl type of the result"}
 
 
-def of_fault(content, fault, further=()):
-    """A lifetime that would have to outlive another; and, at the same place, further ones."""
+class Placed(NamedTuple):
+    """A fault with its place, and rustc's error of it."""
+
+    fault: Fault
+    place: Optional[Place]
+    error: Optional[Error]
+
+
+def placed(content: Content, fault: Fault) -> Placed:
+    """At rustc's place; of a text that doesn't say it, at that of an error of rustc on the line at which the chain begins, or
+    at that line alone. So it is with what a macro of another file makes."""
+    facts, named = content.facts, blame.of_fault(content.facts, fault)
+    place = named.place if named else None
+    if not place and (line := asking_statements.entry(facts, fault.steps)) is not None:
+        place = Place(line, 0, line, 0)
+        error = counterpart(facts, fault, place)
+        place = error.place() if error and error.line == line else place
+    return Placed(fault, place, counterpart(facts, fault, place))
+
+
+def names_of(content: Content, fault: Fault) -> list[Sentence]:
+    """What both lifetimes of a fault are called."""
+    lifetimes = Lifetimes(content, fault, placed(content, fault).error)
+    return [lifetimes.name(fault.sup), lifetimes.name(fault.sub)]
+
+
+def of_fault(content: Content, fault: Fault) -> Finding:
+    """A lifetime that would have to outlive another."""
+    return of_placed(content, placed(content, fault))
+
+
+def of_placed(content: Content, one: Placed, further: Iterable[Placed] = ()) -> Finding:
+    """The same; and, at the same place, further ones."""
+    fault, place, error = one
+    lifetimes, shorter = Lifetimes(content, fault, error), [fault.sub, *(other.fault.sub for other in further)]
     named = blame.of_fault(content.facts, fault)
-    told = Telling(place_of_fault(content, fault, named), "", [], [], fault)
-    error = counterpart(content, told)
-    if error and told.place and not told.place.column and error.line == told.place.line:
-        told = told._replace(place=error.place())       # within a macro of another file
-    lifetimes = Lifetimes(content, fault, error)
     asker = f": {ASKERS[named.word]} requires it" if named and named.word in ASKERS else ""
-    shorter = [lifetimes.name(one.sub) for one in (fault, *further)]
-    head = [*lifetimes.name(fault.sup), " must outlive ", *sentences.joined(shorter),
+    head = [*lifetimes.name(fault.sup), " must outlive ", *joined([lifetimes.name(sub) for sub in shorter]),
             ", but the signature doesn't declare it", asker]
-    more = [lifetimes.places(fault.sup, *(one.sub for one in (fault, *further))), *notes(content, fault, error)]
-    return told._replace(head=head, cause=way_of(content, fault, lifetimes), more=list(filter(None, more)),
-                         within=within(told, error))
+    stops = stops_of(content, fault.steps[::-1])
+    way = ["data that lives for ", *lifetimes.name(fault.sup), " flows into ", *lifetimes.name(fault.sub), " at ",
+           *joined(stops)] if stops else ["no line of the source is known for the constraints that require it"]
+    more = [lifetimes.places(fault.sup, *shorter), *notes(content, fault, error)]
+    return Finding(place, "", head, way, fault, [*filter(None, more)], within(place, error))
 
 
-def of_faults(content):
+def of_faults(content: Content) -> list[Finding]:
     """The faults, each place and longer lifetime once; rustc's own pair comes first. What rustc doesn't say beside
     another one is told with that."""
-    groups = {}
-    for fault in content.faults:
-        place = place_of_fault(content, fault, blame.of_fault(content.facts, fault))
-        groups.setdefault((fault.sup, place[:2] if place else fault.sub), []).append(fault)
-    told = []
-    for faults in groups.values():
-        faults.sort(key=lambda one: not is_of_rustc(content, one))
-        told.append(of_fault(content, faults[0], faults[1:]))
-    return folded(told, [counterpart(content, one) for one in told])
+    groups = grouped(((one.fault.sup, one.place[:2] if one.place else one.fault.sub), one)
+                     for one in (placed(content, fault) for fault in content.faults))
+    its = [sorted(group, key=lambda one: not is_of_rustc(content, one.fault)) for group in groups.values()]
+    told = [of_placed(content, first, further) for first, *further in its]
+    kept = grouped((home, number) for number, home in enumerate(homes([first for first, *_ in its])))
+    return [with_others(told[home], [told[number].cause for number in numbers if number != home])
+            for home, numbers in sorted(kept.items())]
 
 
-def folded(told, errors):
-    """The tellings of faults; those that rustc has no error of, or the same one, stand in another one as a sentence.
+def homes(faults: list[Placed]) -> list[int]:
+    """For each fault the one with which it is told: those that rustc has no error of, or the same one, with another.
 
     Of the lifetimes that one would have to outlive rustc names the first alone, and of two that would have to be equal
     it says once that one has to be named in a type.
     """
-    kept = {}
-    for number, (one, error) in enumerate(zip(told, errors)):
-        home = next((at for at, other in enumerate(told) if errors[at] and (
-            error is None and other.fault.sup == one.fault.sup
-            or at in kept and error is errors[at] and error.code() == "E0621"
-            and (other.fault.sup, other.fault.sub) == (one.fault.sub, one.fault.sup))), number)
-        kept.setdefault(home, []).append(one)
-    return [told[at]._replace(more=with_others(told[at].more, [one.cause for one in its if one is not told[at]]))
-            for at, its in sorted(kept.items())]
+    found: list[int] = []
+    for number, one in enumerate(faults):
+        found.append(next((at for at, other in enumerate(faults) if other.error and (
+            other.fault.sup == one.fault.sup if one.error is None
+            else at in found and one.error is other.error and one.error.code() == "E0621"
+            and other.fault[:2] == (one.fault.sub, one.fault.sup))), number))
+    return found
 
 
-def with_others(more, causes):
-    """The sentences, with how further faults come about before what rustc advises."""
+def with_others(finding: Finding, causes: list[Sentence]) -> Finding:
+    """With how further faults come about before what rustc advises."""
+    more = finding.more
     at = next((number for number, said in enumerate(more) if said[0] == HELP), len(more))
-    return [*more[:at], *(["also, ", *cause] for cause in causes), *more[at:]]
+    return finding._replace(more=[*more[:at], *(["also, ", *cause] for cause in causes), *more[at:]])
 
 
-def is_of_rustc(content, fault):
+def is_of_rustc(content: Content, fault: Fault) -> bool:
     """Whether an error of rustc is of the very lifetimes of a fault."""
     return any(error.is_of_lifetimes() and pair_of(error) and are_same(content.facts, fault, pair_of(error))
-               for error in content.facts.remarks.beside.rustc)
-
-
-def place_of_fault(content, fault, named):
-    """rustc's place; of a text that doesn't say it, that of an error of rustc on the line at which the chain begins, or
-    that line alone. So it is with what a macro of another file makes."""
-    if named and named.place:
-        return named.place
-    line = asking_statements.entry(content.facts, fault.steps)
-    place = None if line is None else Place(line, 0, line, 0)
-    error = counterpart(content, Telling(place, "", [], [], fault)) if place else None
-    return error.place() if error and error.line == line else place
-
-
-def way_of(content, fault, lifetimes):
-    """The lines through which what is to last too long goes."""
-    stops = stops_of(content, fault.steps[::-1])
-    name = lifetimes.name(fault.sup)
-    if not stops:
-        return ["no line of the source is known for the constraints that require it"]
-    return ["data that lives for ", *name, " flows into ", *lifetimes.name(fault.sub), " at ",
-            *sentences.joined(stops)]
-
-
-def names_of(content, fault):
-    """What both lifetimes of a fault are called."""
-    lifetimes = Lifetimes(content, fault, counterpart(content, of_fault(content, fault)))
-    return lifetimes.name(fault.sup), lifetimes.name(fault.sub)
+               for error in content.beside.rustc)

@@ -64,7 +64,7 @@ def told_of(content):
     """The faults, and where rustc says something else, as pairs of a line and words."""
     found = [(one.place.line if one.place else None, coded(one.code, plain(one.head)))
              for one in findings.all_of(content)]
-    found += [(line, f"rustc: {said}; nllc: no fault there") for line, _, said, _ in differences(content)]
+    found += [(one.error.line, f"rustc: {one.error.words}; nllc: no fault there") for one in differences(content)]
     found += [(one.line, f"rustc: {one.words}") for one in refused(content)]
     more = [(None, f"and {len(found) - MOST_TOLD} more")] if len(found) > MOST_TOLD else []
     return [[line, visible(said)[:MOST_LETTERS]] for line, said in found[:MOST_TOLD] + more]

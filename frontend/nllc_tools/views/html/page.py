@@ -128,9 +128,9 @@ def start(content):
         return {"step": 0}
     number = content.facts.names.index
     regions = [number(fault.loan.region) for fault in content.loans]
-    for line, column, _, _ in [] if regions else differences(content):
-        loan = handed_out(content, line, column)
-        regions += [number(loan.region) if loan else passed_by(content, line, column)]
+    for one in [] if regions else differences(content):
+        loan = handed_out(content, one.error)
+        regions += [number(loan.region) if loan else passed_by(content, one.error)]
     return next(({"region": region} for region in regions if region is not None), {})
 
 

@@ -1,7 +1,7 @@
 """A text, its values and its faults as one object of JSON (docs/answer.schema.json)."""
 
 from nllc_tools.base.grouping import spans
-from nllc_tools.judge.findings import findings, lifetime_findings, loan_findings
+from nllc_tools.judge.findings import lifetime_findings, loan_findings, move_findings
 from nllc_tools.model.facts import ALL
 from nllc_tools.views.terminal import finding_lines
 
@@ -57,13 +57,13 @@ def loan(content, one):
 def move(content, one):
     """What is used at a point that was moved or has no value, or is assigned again, and the walk to there."""
     return {"code": one.code, "point": one.point, "since": list(one.since),
-            **said(findings.of_gone(content, one)), "walk": list(one.walk)}
+            **said(move_findings.of_gone(content, one)), "walk": list(one.walk)}
 
 
 def said(told):
     """The place, and the words of a telling."""
     place = told.place and dict(zip(("line", "column", "last_line", "end_column"), told.place))
-    return {"place": place, **finding_lines.parts(told)}
+    return {"place": place, **finding_lines.parts(told)._asdict()}
 
 
 def step(facts, one):

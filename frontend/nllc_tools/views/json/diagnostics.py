@@ -8,19 +8,32 @@ import json
 import os
 import re
 from functools import cache
-from typing import Any, Iterable, Iterator, Optional, Sequence
+from typing import Any, Iterator, NamedTuple, Optional, Sequence
 
+from nllc_tools.base.sentences import plain, visible
+from nllc_tools.judge.summary import Summary, Told
+from nllc_tools.judge.findings.finding import Finding
+from nllc_tools.model.said import Error as OwnError, Place
 from nllc_tools.rustc.compiler import version
 from nllc_tools.rustc.errors import Error, error_of, without_colours
 from nllc_tools.rustc.functions import Checked
+from nllc_tools.views.terminal import finding_lines
 
 Said = dict[str, Any]
 WORD = re.compile(r"\w*")
 
 
-def lines(checked: Checked, answers: Iterable[Said]) -> Iterator[str]:
+class Mark(NamedTuple):
+    """By what an error of rustc is known again."""
+
+    path: str
+    line: int
+    column: int
+    words: str
+
+
+def lines(checked: Checked, answers: list[Summary]) -> Iterator[str]:
     """The lines of a file or a project; the answers are those of its functions."""
-    answers = [said for said in answers if said]
     seen = set()
     for diagnostic in [*faults(answers), *others(checked, answers)]:
         line = json.dumps(diagnostic, ensure_ascii=False)
@@ -29,29 +42,28 @@ def lines(checked: Checked, answers: Iterable[Said]) -> Iterator[str]:
             yield line
 
 
-def faults(answers: list[Said]) -> Iterator[Said]:
+def faults(answers: list[Summary]) -> Iterator[Said]:
     for said in answers:
-        unnamed = [tuple(place) for place in said["unnamed"]]
-        for told in said["tellings"]:
-            is_unnamed = told["place"] and tuple(told["place"][:2]) in unnamed
-            notes = [f"{version()} reports no error there"] if is_unnamed else []
-            yield of_fault(said["source"], told, [*told["notes"], *notes])
+        unnamed = {one.finding.place[:2] for one in said.findings if one.finding.place and not one.is_of_rustc}
+        for told in said.findings:
+            is_unnamed = told.finding.place and told.finding.place[:2] in unnamed
+            yield of_fault(said.source, told, [f"{version()} reports no error there"] if is_unnamed else [])
 
 
-def of_fault(path: str, told: Said, notes: list[str]) -> Said:
+def of_fault(path: str, told: Told, more: list[str]) -> Said:
     """The diagnostic of a fault: its place, and the labels of other places."""
-    place = told["place"]
-    labels = {tuple(label["place"] or (label["line"], 0, label["line"], 0)): label["words"] for label in told["labels"]}
-    whole = (place[0], 0, place[0], 0) if place else None
-    own = labels.pop(tuple(place), labels.pop(whole, None)) if place else None
+    place, code, within = told.finding.place, told.finding.code, told.finding.within
+    parts = finding_lines.parts(told.finding)
+    labels = {label.place or Place(label.line, 0, label.line, 0): visible(label.words) for label in told.labels}
+    own = labels.pop(place, labels.pop(Place(place.line, 0, place.line, 0), None)) if place else None
     spans = [span(path, place, own, True)] if place else []
-    if told["within"]:
-        spans = [span(*told["within"], own, True), span(path, place, "in this macro invocation", False)]
+    if within and within.place and place:
+        spans = [span(within.path, within.place, own, True), span(path, place, "in this macro invocation", False)]
     spans += [span(path, other, label, False) for other, label in labels.items()]
-    children = [child("note", note) for note in notes] + [child("help", one) for one in told["helps"]]
-    return {"$message_type": "diagnostic", "message": told["message"],
-            "code": {"code": told["code"], "explanation": None} if told["code"] else None, "level": "error",
-            "spans": spans, "children": children, "rendered": rendered(path, told, children)}
+    children = [child("note", note) for note in (*parts.notes, *more)] + [child("help", one) for one in parts.helps]
+    return {"$message_type": "diagnostic", "message": parts.message,
+            "code": {"code": code, "explanation": None} if code else None, "level": "error",
+            "spans": spans, "children": children, "rendered": rendered(path, told.finding, parts.message, children)}
 
 
 def span(path: str, place: Sequence[int], label: Optional[str], is_primary: bool) -> Said:
@@ -102,21 +114,21 @@ def child(level: str, message: str) -> Said:
     return {"message": message, "code": None, "level": level, "spans": [], "children": [], "rendered": None}
 
 
-def rendered(path: str, told: Said, children: list[Said]) -> str:
+def rendered(path: str, finding: Finding, message: str, children: list[Said]) -> str:
     """The same for a person, as rustc lays it out."""
-    code = f"[{told['code']}]" if told["code"] else ""
-    where, (line, column, *_) = told["within"] or (path, told["place"] or (0, 0))
-    place = f" --> {where}:{line}:{column or 1}\n" if line else ""
+    code = f"[{finding.code}]" if finding.code else ""
+    where, at = finding.within or (path, finding.place)
+    place = f" --> {where}:{at.line}:{at.column or 1}\n" if at else ""
     notes = "".join(f"  = {one['level']}: {one['message']}\n" for one in children)
-    return f"error{code}: {told['message']}\n{place}{notes}\n"
+    return f"error{code}: {message}\n{place}{notes}\n"
 
 
-def others(checked: Checked, answers: list[Said]) -> Iterator[Said]:
+def others(checked: Checked, answers: list[Summary]) -> Iterator[Said]:
     """What rustc says and no fault does; where `nllc` differs, with a note that says so, and why."""
-    told = {mark for said in answers for mark in marks(said, "errors")}
-    differing = {mark: error[3] for said in answers
-                 for mark, error in zip(marks(said, "differences"), said["differences"])}
-    told -= {mark for said in answers for kind in ("differences", "further", "refused") for mark in marks(said, kind)}
+    told = {mark_in(said, error) for said in answers for error in said.errors}
+    differing = {mark_in(said, one.error): visible(plain(one.why)) for said in answers for one in said.differences}
+    told -= {mark_in(said, error) for said in answers
+             for error in (*said.refused, *(one.error for one in (*said.differences, *said.further)))}
     own = {mark_of(error) for error in (*checked.errors, *checked.unanswered)}
     for unit in checked.units:
         for diagnostic in unit.diagnostics():
@@ -128,13 +140,12 @@ def others(checked: Checked, answers: list[Said]) -> Iterator[Said]:
                 yield moved(diagnostic | {"children": diagnostic["children"] + notes}, unit.root)
 
 
-def marks(said: Said, kind: str) -> list[tuple]:
-    """By what rustc's errors are known again: the file, the place and the words."""
-    return [(said["source"], *error[:3]) for error in said[kind]]
+def mark_in(said: Summary, error: OwnError) -> Mark:
+    return Mark(said.source, error.line, error.column, error.words)
 
 
-def mark_of(error: Error) -> tuple:
-    return error.path, error.line, error.column, " ".join(error.words().split())
+def mark_of(error: Error) -> Mark:
+    return Mark(error.path, error.line, error.column, " ".join(error.words().split()))
 
 
 def moved(thing: Any, root: str) -> Any:

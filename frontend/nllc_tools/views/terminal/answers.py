@@ -1,15 +1,19 @@
 """What `nllc.sh rust` prints of functions."""
 
 import re
-from dataclasses import dataclass, field
-from typing import Any, Iterator, Optional
+from dataclasses import dataclass
+from typing import Iterator, NamedTuple, Optional
 
-from nllc_tools.base.sentences import plural
+from nllc_tools.base.sentences import plain, plural, visible
+from nllc_tools.judge.findings.finding import where
+from nllc_tools.judge.summary import Summary
+from nllc_tools.model.said import Error as OwnError
 from nllc_tools.rustc.compiler import version
 from nllc_tools.rustc.errors import Error
+from nllc_tools.views.terminal import finding_lines
 
 MOST_NAMES = 20
-INNER = re.compile(r"::\{(?:closure|constant)#")
+INNER = r"::\{(?:closure|constant)#"
 UNJUDGED = dict.fromkeys(("E0309", "E0310", "E0311"), "how long a type parameter lives")
 OTHERS = "another reason than loans and lifetimes"
 
@@ -20,15 +24,36 @@ class Answer:
 
     status: int
     failure: str = ""
-    said: dict[str, Any] = field(default_factory=dict)
+    said: Optional[Summary] = None
 
-    def count(self) -> int:
-        return self.said.get("faults", 0) + self.said.get("loans", 0) + self.said.get("moves", 0)
+
+class Spot(NamedTuple):
+    """Where something is told."""
+
+    source: str
+    line: int
+    column: int
+
+
+class Shown(NamedTuple):
+    """An error of rustc that is shown: of several with the same words at one place its number."""
+
+    spot: Spot
+    words: str
+    number: int
+
+
+class Remark(NamedTuple):
+    """What is said of an error of rustc that is no fault: in words that follow it, and why."""
+
+    error: OwnError
+    more: str
+    why: str
 
 
 def outermost(function: str) -> str:
     """The function in which a closure or a constant stands."""
-    return INNER.split(function)[0]
+    return re.split(INNER, function)[0]
 
 
 def tell_silent(silent: list[tuple[bool, str]]) -> None:
@@ -39,55 +64,53 @@ def tell_silent(silent: list[tuple[bool, str]]) -> None:
         print(f"no fault: {', '.join(names[:MOST_NAMES])}{more}")
 
 
-def verdict(said: dict[str, Any]) -> str:
-    counts = [plural(said[kind], noun) for kind, noun in (("faults", "fault"), ("loans", "loan error"), ("moves", "move error"))
-              if said[kind]]
-    return ", ".join(counts) or ("refused by rustc" if said["refused"] else "no fault")
+def verdict(said: Summary) -> str:
+    counts = [plural(count, noun) for count, noun in
+              ((said.faults, "fault"), (said.loans, "loan error"), (said.moves, "move error")) if count]
+    return ", ".join(counts) or ("refused by rustc" if said.refused else "no fault")
 
 
-def told(said: dict[str, Any], places: set[tuple], errors: list[Error], shown: set[tuple]) -> list[str]:
+def told(said: Summary, places: set[Spot], errors: list[Error], shown: set[Shown]) -> list[str]:
     """A function's lines; `places` are those of all functions' faults, the errors are rustc's.
 
     An error of rustc that is of a closure and of the function around it is shown once; of several with the same words
     at one place each is.
     """
-    lines, source = [*said["lines"], *said["explained"], *said["everywhere"]], said["source"]
-    if said["asked_to_explain"]:
-        lines += [f"requires of the enclosing function that {need}" for need in said["needs"]]
-    within = {(line, column, words): where for line, column, words, where in said["within"]}
-    for number, (line, column, words, why) in numbered(said["differences"]):
-        if (source, line, column) not in places and (source, line, column, words, number) not in shown:
-            shown.add((source, line, column, words, number))
-            lines += of_rustc(source, line, column, f"{words}; nllc: no fault there", why,
-                              within.get((line, column, words)))
-    for number, (line, column, words, why) in numbered(said["further"]):
-        if (source, line, column) not in places and (source, line, column, words, number) not in shown:
-            shown.add((source, line, column, words, number))
-            lines += of_rustc(source, line, column, words, why, within.get((line, column, words)))
-    for number, (line, column, words) in numbered(said["refused"]):
-        if (source, line, column, words, number) not in shown:
-            shown.add((source, line, column, words, number))
-            why = f"rustc refuses this for {UNJUDGED.get(words[:5], OTHERS)}, which nllc doesn't check"
-            lines += of_rustc(source, line, column, words, why, within.get((line, column, words)))
-    for line, column in said["unnamed"]:
-        if not is_named(errors, source, line, column):
-            lines.append(f"{source}:{line}:{column}: {version()} reports no error there")
-    return lines
+    lines = [line for one in said.findings for line in finding_lines.lines(said.path, one.finding)] + said.lines
+    for remarks in remarks_of(said):
+        for at, one in enumerate(remarks):
+            spot = Spot(said.source, one.error.line, one.error.column)
+            mark = Shown(spot, one.error.words, sum(other.error[:3] == one.error[:3] for other in remarks[:at]))
+            if mark not in shown and (spot not in places or not one.error.is_judged()):
+                shown.add(mark)
+                lines += of_rustc(said.source, one)
+    for place in places_of(said, False):
+        if not is_named(errors, place):
+            lines.append(f"{place.source}:{place.line}:{place.column}: {version()} reports no error there")
+    return [visible(line) for line in lines]
 
 
-def numbered(rows: list[list[Any]]) -> Iterator[tuple[int, list[Any]]]:
-    """Each row with the count of equal ones before it."""
-    for at, row in enumerate(rows):
-        yield rows[:at].count(row), row
+def places_of(said: Summary, is_of_rustc: Optional[bool] = None) -> list[Spot]:
+    """The places of a function's findings; or of those of which rustc has an error, or has none."""
+    return [Spot(said.source, *one.finding.place[:2]) for one in said.findings
+            if one.finding.place and is_of_rustc in (None, one.is_of_rustc)]
 
 
-def of_rustc(source: str, line: int, column: int, words: str, why: str, within: Optional[str]) -> list[str]:
+def remarks_of(said: Summary) -> Iterator[list[Remark]]:
+    """rustc's errors that are no faults, by kinds."""
+    yield [Remark(one.error, "; nllc: no fault there", plain(one.why)) for one in said.differences]
+    yield [Remark(one.error, "", plain(one.why)) for one in said.further]
+    yield [Remark(error, "", f"rustc refuses this for {UNJUDGED.get(error.code(), OTHERS)}, which nllc doesn't check")
+           for error in said.refused]
+
+
+def of_rustc(source: str, one: Remark) -> list[str]:
     """An error of rustc at its place, which may be within a macro of another file, and a sentence on it."""
-    used = f"{source}:{line}:{column}"
-    macro = [f"    in this macro invocation: {used}"] if within else []
-    return [f"{within or used}: {version()}: {words}", f"    {why}", *macro]
+    error, used = one.error, f"{source}:{one.error.line}:{one.error.column}"
+    macro = [f"    in this macro invocation: {used}"] if error.within else []
+    return [f"{where(*error.within) if error.within else used}: {version()}: {error.words}{one.more}", f"    {one.why}", *macro]
 
 
-def is_named(errors: list[Error], source: str, line: int, column: int) -> bool:
+def is_named(errors: list[Error], spot: Spot) -> bool:
     """Whether rustc names an error there; of a place of which the line alone is known, on the line."""
-    return any((error.path, error.line) == (source, line) and column in (0, error.column) for error in errors)
+    return any((error.path, error.line) == spot[:2] and spot.column in (0, error.column) for error in errors)

@@ -1,23 +1,30 @@
 """Findings as lines of a terminal, and as sentences for programs."""
 
+from typing import NamedTuple
+
 from nllc_tools.base import sentences
 from nllc_tools.base.sentences import visible
-from nllc_tools.judge.findings.finding import HELP, where
+from nllc_tools.judge.findings.finding import HELP, Finding, where
 
 
-def parts(told):
-    """The sentences of a telling for programs: what it is, how it comes about and what else is said, what to do."""
-    below = [visible(sentences.plain(one)) for one in (told.cause, *told.more)]
-    return {"message": visible(sentences.plain(told.head)), "notes": [one for one in below if not one.startswith(HELP)],
-            "helps": [one.removeprefix(HELP) for one in below if one.startswith(HELP)]}
+class Parts(NamedTuple):
+    """The sentences of a finding for programs: what it is, how it comes about and what else is said, what to do."""
+
+    message: str
+    notes: list[str]
+    helps: list[str]
 
 
-def lines(content, telling):
+def parts(finding: Finding) -> Parts:
+    below = [visible(sentences.plain(one)) for one in (finding.cause, *finding.more)]
+    return Parts(visible(sentences.plain(finding.head)), [one for one in below if not one.startswith(HELP)],
+                 [one.removeprefix(HELP) for one in below if one.startswith(HELP)])
+
+
+def lines(path: str, finding: Finding) -> list[str]:
     """The lines for a terminal: what it is, how it comes about, what else is said, and what to do about it."""
-    path = content.source.path if content.source else content.facts.remarks.source
-    used = where(path, telling.place)
-    named = where(*telling.within) if telling.within else used
-    code = f"{telling.code}: " if telling.code else ""
-    head = f"{named}: {code}{sentences.plain(telling.head)}" if named else f"{code}{sentences.plain(telling.head)}"
-    macro = [sentences.of_macro(used, path)] if telling.within else []
-    return [head, *(f"    {sentences.plain(one)}" for one in (telling.cause, *macro, *telling.more))]
+    used = where(path, finding.place)
+    named = where(*finding.within) if finding.within else used
+    head = ": ".join(filter(None, (named, finding.code, sentences.plain(finding.head))))
+    macro = [sentences.of_macro(used, path)] if finding.within else []
+    return [head, *(f"    {sentences.plain(one)}" for one in (finding.cause, *macro, *finding.more))]

@@ -10,14 +10,13 @@ def both(content):
     if content.everywhere is None:
         return ""
     rows = [row("answer", text(counted(content)), text(counted(content.everywhere)))]
-    only_first, only_second = alone(content)
-    rows += [row(place_of(one), sentence(one.head), "–") for one in only_first]
-    rows += [row(place_of(one), "–", sentence(one.head)) for one in only_second]
+    rows += [row(place_of(one), sentence(one.head), "–") for one in alone(content, content.everywhere)]
+    rows += [row(place_of(one), "–", sentence(one.head)) for one in alone(content.everywhere, content)]
     return ('<section class="answers" aria-label="Both answers"><h2>Constraints from points on, or at all points</h2>'
             "<p>On the left each constraint holds from a point on. On the right each one holds at all points, as "
             "rustc’s own solver takes them. Whatever is only on the right is precision gained by points.</p>"
             '<table><thead><tr><td></td><th scope="col">from points on</th><th scope="col">at all points</th></tr>'
-            f'</thead><tbody>{"".join(rows)}</tbody></table><p>{regions_words(differing(content))}</p></section>')
+            f'</thead><tbody>{"".join(rows)}</tbody></table><p>{regions_words(differing(content, content.everywhere))}</p></section>')
 
 
 def regions_words(regions):

@@ -1,17 +1,17 @@
 """What rustc refuses and `nllc` doesn't: both answers, with the reason; moves and assignments; what nothing here judges."""
 
 from nllc_tools.judge.differences import differences, refused
-from nllc_tools.judge.findings import findings
+from nllc_tools.judge.findings import move_findings
 from nllc_tools.views.html.escaping import sentence, ticked
 
 
 def difference_list(content):
     """The parts of the page; nothing where there is no difference, and nothing else that rustc refuses."""
-    moves = [findings.of_gone(content, one) for one in content.facts.remarks.beside.gone]
+    moves = [move_findings.of_gone(content, one) for one in content.facts.remarks.beside.gone]
     return part("Moves and assignments", [item(one.place.line, f"{one.code}: {sentence(one.head)}", sentence(one.cause))
                                           for one in moves], "faults") \
-        + part("rustc refuses, nllc doesn’t", [item(line, ticked(said), f"nllc: no fault there; {sentence(why)}")
-                                               for line, _, said, why in differences(content)]) \
+        + part("rustc refuses, nllc doesn’t", [item(one.error.line, ticked(one.error.words), f"nllc: no fault there; {sentence(one.why)}")
+                                               for one in differences(content)]) \
         + part("rustc refuses for a reason that nllc doesn’t check", [item(one.line, ticked(one.words), "nllc doesn’t check this")
                                                               for one in refused(content)])
 

@@ -46,7 +46,7 @@ def first_step(content, fault):
 
 def place_words(facts, fault):
     """The line of what goes against the loan, or its point."""
-    line = loan_findings.line_of(facts, fault.against)
+    line = loan_findings.line_of(facts, fault)
     return f"line {line}" if line is not None else f"point {facts.point_name(fault.against.point)}"
 
 
