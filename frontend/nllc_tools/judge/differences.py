@@ -84,6 +84,6 @@ def passed_by(content: Content, error: Error) -> Optional[int]:
         return None
     first, last = ([region for region in range(facts.universals) if is_called(facts, region, name)] for name in pair)
     onward = grouped((one.sup, one.sub) for one in facts.constraints) | {OUTSIDE: first}
-    came_by = shortest(OUTSIDE, lambda region: ((sub, region) for sub in onward.get(region, ())))
+    came_by = shortest([OUTSIDE], lambda region: ((sub, region) for sub in onward.get(region, ())))
     way = backwards(came_by, next((region for region in came_by if region in last), OUTSIDE), lambda region: region)
     return next((region for region in way[::-1] if not facts.is_universal(region) and not is_inner(facts, region)), None)

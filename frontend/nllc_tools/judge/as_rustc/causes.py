@@ -75,7 +75,7 @@ def used(facts: Facts, region: int, point: int, steps: list[Step]) -> Cause:
     either = live & (uses | beside.drops.get(name, set()))
     onwards: list[Callable[[int], list[int]]] = [partial(without_unwinding, facts), facts.successors.__getitem__]
     for onward in onwards:
-        came_by = shortest(point, lambda here: ((one, here) for one in onward(here) if one in live))
+        came_by = shortest([point], lambda here: ((one, here) for one in onward(here) if one in live))
         for use in filter(either.__contains__, came_by):
             place = beside.called.get((use, None)) or beside.captured.get((use, name)) or beside.used.get(use)
             return Cause(region, use, use not in uses, steps, place)
