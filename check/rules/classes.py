@@ -2,7 +2,8 @@
 
 from typing import NamedTuple
 
-from nllc_tools.model.liveness import at_starts, bases, neighbours, spread, table_of
+from nllc_tools.base.grouping import grouped
+from nllc_tools.model.liveness import bases, locations_of, neighbours, spread
 
 from sides import Both, closed, differing
 
@@ -60,12 +61,12 @@ def of_bounds(both: Both) -> set[tuple[int, int]]:
 def of_drops(both: Both) -> set[tuple[int, int]]:
     """Where a variable is live for a drop, whether anything is left in it or not."""
     before, _ = neighbours(both.tables)
-    dropped, defined = table_of(both.tables.var_dropped_at), table_of(both.tables.var_defined_at)
+    dropped, defined = grouped(both.tables.var_dropped_at), grouped(both.tables.var_defined_at)
     found: set[tuple[int, int]] = set()
     for local, type in both.function.locals.items():
         passed = set(defined[local])
-        live = spread(before, dropped[local], lambda spot: spot not in passed)
-        found |= numbered(both, at_starts(type.regions(), live))
+        live = locations_of(spread(before, dropped[local], lambda spot: spot not in passed))
+        found |= numbered(both, ((region, location) for region in type.regions() for location in live))
     return found
 
 

@@ -11,14 +11,13 @@ from dataclasses import dataclass, field
 
 from nllc_tools.commands.rules import numbers_of
 from nllc_tools.model.facts import ALL, Facts
-from nllc_tools.model.constraints import constraints as asked_of, live_points, named
-from nllc_tools.model.points import Points, number_points
+from nllc_tools.model.points import Points
 from nllc_tools.model.problem import Problem as FactsProblem
-from nllc_tools.model.remarks import Remark
 from nllc_tools.model.regions import Regions
-from nllc_tools.rustc.mir.body_reader import read_body
+from nllc_tools.model.typed_function import TypedFunction
 from nllc_tools.rustc.mir.function import Function, read_function
-from nllc_tools.rustc.tables import Tables, read_tables
+from nllc_tools.rustc.tables import Tables
+from nllc_tools.texts.facts.conversion import problem_of
 from nllc_tools.texts.facts.writer import facts_text
 
 STATIC = 0
@@ -74,9 +73,9 @@ class Reading:
 
     def __init__(self, dump):
         self.function = read_function(dump)
-        self.tables, body = read_tables(dump.facts), read_body(dump.mir)
-        self.points, self.regions = number_points(self.tables, body), Regions(self.tables)
-        self.facts, self.text, self.numbers = facts_problem(dump, body, self.tables, self.points, self.regions)
+        typed = TypedFunction(dump)
+        self.tables, self.points, self.regions = typed.tables, typed.points, typed.regions
+        self.facts, self.text, self.numbers = facts_problem(typed)
 
     def add_values(self, text: str, answering: Answering) -> dict[int, frozenset[int]]:
         """Has nllc find the values of both texts; gives those of the MIR text."""
@@ -144,29 +143,16 @@ def values_by_facts(said: dict[str, list[str]], numbers: dict[str, int]) -> dict
         for name, elements in said.items()}
 
 
-def facts_problem(dump, body, tables: Tables, points: Points,
-                  regions: Regions) -> tuple[Problem, FactsProblem, dict[str, int]]:
+def facts_problem(typed: TypedFunction) -> tuple[Problem, FactsProblem, dict[str, int]]:
     """The problem of the facts text, whose constraints at all points are told as such; what the text is written of; and
     rustc's numbers of the text's names.
     """
-    asked = list(asked_of(dump.name, points, tables, regions))
-    universals, others, names = named(body, tables, regions, asked)
-    nothing = Remark(None, "")
-    numbers = {name: region for region, name in names.items()}
-    text = FactsProblem(
-        function=dump.name, source="", points=[nothing] * len(points.locations),
-        universals=[(names[region], nothing) for region in universals if region != STATIC],
-        outlives=[(names[a], names[b]) for a, b in sorted(tables.known_placeholder_subset)
-                  if a not in (b, STATIC) and {a, b} <= set(universals)],
-        regions=[(names[region], nothing) for region in others],
-        successors=points.successors, returns=points.returns,
-        bases=[(names[region], live) for region, live in live_points(tables, body, points, regions)],
-        constraints=[(names[a], names[b], at) for a, b, at in asked])
-    text.check_limits()
+    text, tables, regions = problem_of(typed), typed.tables, typed.regions
+    numbers = {name: region for region, name in typed.names.items()}
     everywhere = {(regions.find(a), regions.find(b)) for a, b in tables.subset_base.everywhere}
     problem = Problem()
     problem.bases = {(numbers[name], point) for name, live in text.bases for point in live}
-    problem.constraints = {(a, b, at) for a, b, at in asked if a != STATIC and (a, b) not in everywhere}
+    problem.constraints = {(a, b, at) for a, b, at in typed.constraints if a != STATIC and (a, b) not in everywhere}
     problem.constraints |= {(a, b, ALL) for a, b in everywhere if a not in (b, STATIC)}
     problem.asserts = {(a, b) for a, b in tables.subset_base.everywhere if a not in (b, STATIC)}
     return problem, text, numbers

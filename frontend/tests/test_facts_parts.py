@@ -6,6 +6,7 @@ import os
 import sys
 import tempfile
 import unittest
+from types import SimpleNamespace
 from unittest import mock
 
 import facts_support as support
@@ -146,7 +147,7 @@ class Words(unittest.TestCase):
         given = tables(universal_region=[0], use_of_var_derefs_origin=[(1, r) for r in origins])
         body = Body("f", locals={1: local})
         names = {region: f"r{region}" for region in origins}
-        return Wording(body, given, Regions(given), names)
+        return Wording(SimpleNamespace(body=body, tables=given, regions=Regions(given), names=names))
 
     def test_regions_in_a_type(self):
         wording = self.wording(Local("&mut Vec<&S<'_>>", "x"), [3, 4, 5])

@@ -1,5 +1,6 @@
 """Pairs as lists by their first, and numbers as runs."""
 
+from collections import defaultdict
 from typing import Iterable, TypeVar
 
 Key = TypeVar("Key")
@@ -7,10 +8,10 @@ Value = TypeVar("Value")
 
 
 def grouped(pairs: Iterable[tuple[Key, Value]]) -> dict[Key, list[Value]]:
-    """For each thing that stands first the things that stand beside it."""
-    table: dict[Key, list[Value]] = {}
+    """For each thing that stands first the things that stand beside it; of another thing there are none."""
+    table: dict[Key, list[Value]] = defaultdict(list)
     for key, value in pairs:
-        table.setdefault(key, []).append(value)
+        table[key].append(value)
     return table
 
 

@@ -10,16 +10,12 @@ from typing import Callable, Union
 
 from nllc_tools.commands.texts import problem_of
 from nllc_tools.model.facts import ALL, Facts
-from nllc_tools.model.constraints import constraints, named
-from nllc_tools.model.points import number_points
 from nllc_tools.model.problem import Problem
 from nllc_tools.model.remarks import Remark
-from nllc_tools.model.regions import Regions
+from nllc_tools.model.typed_function import TypedFunction
 from nllc_tools.rustc.dumps import Dump
-from nllc_tools.rustc.mir.body_reader import read_body
 from nllc_tools.rustc.mir.function import Function, read_function
 from nllc_tools.rustc.mir.types import STATIC
-from nllc_tools.rustc.tables import read_tables
 from nllc_tools.texts.mir.functions import Made
 from nllc_tools.texts.mir.text import names_of
 
@@ -68,11 +64,9 @@ def asked_by(facts: Facts, names: list[str]) -> set[tuple[str, str, int]]:
 
 def class_names(dump: Dump) -> Callable[[int], str]:
     """How a facts text calls rustc's regions."""
-    tables, body = read_tables(dump.facts), read_body(dump.mir)
-    regions = Regions(tables)
-    asked = list(constraints(dump.name, number_points(tables, body), tables, regions))
-    _, _, names = named(body, tables, regions, asked)
-    return lambda region: names.get(regions.find(region), f"r{regions.find(region)}")
+    function = TypedFunction(dump)
+    find, names = function.regions.find, function.names
+    return lambda region: names.get(find(region), f"r{find(region)}")
 
 
 def numbers_of(function: Function) -> Callable[[str], Union[int, str]]:

@@ -4,14 +4,14 @@ rustc looks for a shortest chain of constraints, in the order in which it made t
 result's `impl`. It ranks the categories of constraints, and names one of the chain's by them (`blamed`).
 """
 
-from typing import Callable, Iterator, Optional, Sequence
+from typing import Callable, Iterable, Optional, Sequence
 
+from nllc_tools.base.grouping import grouped
 from nllc_tools.base.walks import backwards, shortest
 from nllc_tools.model.regions import STATIC
 from nllc_tools.rustc.mir.body import Body, Reason
 from nllc_tools.rustc.mir.captures import MADE
 from nllc_tools.rustc.mir.desugarings import Desugarings
-from nllc_tools.rustc.mir.spans import Span
 
 # rustc's categories of constraints in words. The others say nothing of the source.
 CATEGORIES = {
@@ -66,27 +66,23 @@ class Blame:
 
     def __init__(self, body: Body, desugarings: Desugarings):
         self.body, self.desugarings = body, desugarings
-        self.onwards: dict[int, list[Reason]] = {}
-        for reason in body.reasons:
-            self.onwards.setdefault(reason.sup, []).append(reason)
+        self.onwards = grouped((reason.sup, reason) for reason in body.reasons)
 
-    def chains(self, begin: int, goals: list[int]) -> dict[int, Chain]:
+    def chains(self, begin: int, goals: Iterable[int]) -> dict[int, Chain]:
         """For each of the regions to which a chain leads, the one that rustc finds."""
-        found: dict[int, Chain] = {}
-        for with_opaque in (False, True):
-            left = [goal for goal in goals if goal not in found]
-            came_by = self.search(begin, with_opaque) if left else {}
-            found |= {goal: backwards(came_by, goal, lambda reason: reason.sup)[::-1] for goal in left if came_by.get(goal)}
-        return found
+        found = self.shortest(begin, goals, lambda reason: reason.category != "OpaqueType")
+        left = [goal for goal in goals if goal not in found]
+        return found | (self.shortest(begin, left, lambda reason: True) if left else {})
 
-    def search(self, begin: int, with_opaque: bool) -> dict[int, Optional[Reason]]:
-        """For each region to which a chain leads its last constraint."""
-        def onward(region: int) -> Iterator[tuple[int, Reason]]:
-            if region != STATIC:    # it outlives all, which is never to blame
-                yield from ((reason.sub, reason) for reason in self.onwards.get(region, ())
-                            if with_opaque or reason.category != "OpaqueType")
+    def shortest(self, begin: int, goals: Iterable[int], passes: Callable[[Reason], bool]) -> dict[int, Chain]:
+        """For each of the goals the first shortest chain there of constraints that pass, if there is one."""
+        def onward(region: int) -> Iterable[tuple[int, Reason]]:
+            if region == STATIC:    # it outlives all, which is never to blame
+                return ()
+            return ((reason.sub, reason) for reason in self.onwards[region] if passes(reason))
 
-        return shortest([begin], onward)
+        came_by: dict[int, Optional[Reason]] = shortest([begin], onward)
+        return {goal: backwards(came_by, goal, lambda reason: reason.sup)[::-1] for goal in goals if came_by.get(goal)}
 
     def named(self, chain: Chain) -> Reason:
         """The constraint of a chain that rustc names."""
@@ -104,13 +100,7 @@ class Blame:
         return rank_of(word) if word else INTERNAL
 
     def is_of_closure(self, reason: Reason) -> bool:
-        """Whether the body of a closure asks for it, of the function around it."""
+        """Whether the body of a closure asks for it, of the function around it: its place is a part of the closure's."""
         made = self.body.statements.get(reason.location) if reason.location else None
-        return made is not None and MADE.search(made.text) is not None and is_part(reason.span, made.span)
-
-
-def is_part(inner: Optional[Span], outer: Optional[Span]) -> bool:
-    """Whether the first place is inside the second, and isn't the whole of it."""
-    return inner is not None and outer is not None and inner != outer and inner.file == outer.file \
-        and (outer.first, outer.column) <= (inner.first, inner.column) \
-        and (inner.last, inner.end) <= (outer.last, outer.end)
+        inner, outer = reason.span, made.span if made and MADE.search(made.text) else None
+        return inner is not None and outer is not None and inner != outer and inner.is_inside(outer)

@@ -6,13 +6,12 @@ and some part of it may be initialised all along the path: MIR at this stage als
 moved out of, and such a drop does nothing. (RFC 2094, "Liveness"; the rules are Polonius's.)
 """
 
-from collections import defaultdict
-from typing import Callable, Iterable, Iterator, TypeVar
+from typing import Callable, Iterable, Iterator
 
+from nllc_tools.base.grouping import grouped
 from nllc_tools.base.walks import reached
 from nllc_tools.rustc.tables import Location, Spot, Tables
 
-Thing = TypeVar("Thing")
 Neighbours = dict[Spot, list[Spot]]
 
 
@@ -25,18 +24,15 @@ def bases(tables: Tables) -> Iterator[tuple[int, Location]]:
 def live_variables(tables: Tables) -> Iterator[tuple[list[int], set[Location]]]:
     """For each variable the regions of its type, and the locations before which it is live; first by uses, then by drops."""
     before, after = neighbours(tables)
-    used, defined = table_of(tables.var_used_at), table_of(tables.var_defined_at)
-    for variable, regions in table_of(tables.use_of_var_derefs_origin).items():
+    used, defined = grouped(tables.var_used_at), grouped(tables.var_defined_at)
+    for variable, regions in grouped(tables.use_of_var_derefs_origin).items():
         ends = set(defined[variable])
         yield regions, locations_of(spread(before, used[variable], lambda spot: spot not in ends))
-    dropped = table_of(tables.var_dropped_at)
-    moves = Moves(tables, after)
-    for variable, regions in table_of(tables.drop_of_var_derefs_origin).items():
-        filled = moves.maybe_initialised(variable)
+    dropped, paths = grouped(tables.var_dropped_at), MovePaths(tables)
+    for variable, regions in grouped(tables.drop_of_var_derefs_origin).items():
+        filled = paths.maybe_initialised(variable, after)
         drops = [spot for spot in dropped[variable] if not filled.isdisjoint(before[spot])]
-        live = spread(before, drops,
-                      lambda spot: spot in filled and spot not in defined[variable])
-        yield regions, locations_of(live)
+        yield regions, locations_of(spread(before, drops, lambda spot: spot in filled and spot not in defined[variable]))
 
 
 def locations_of(live: Iterable[Spot]) -> set[Location]:
@@ -44,57 +40,24 @@ def locations_of(live: Iterable[Spot]) -> set[Location]:
     return {spot.location for spot in live if not spot.is_mid}
 
 
-def at_starts(regions: Iterable[int], live: Iterable[Spot]) -> Iterator[tuple[int, Location]]:
-    locations = locations_of(live)
-    yield from ((region, location) for region in regions for location in locations)
-
-
 def neighbours(tables: Tables) -> tuple[Neighbours, Neighbours]:
     """For each spot those before it, and those after it."""
-    before: Neighbours = defaultdict(list)
-    after: Neighbours = defaultdict(list)
-    for begin, end in tables.cfg_edge:
-        before[end].append(begin)
-        after[begin].append(end)
-    return before, after
+    return grouped((end, begin) for begin, end in tables.cfg_edge), grouped(tables.cfg_edge)
 
 
-def table_of(pairs: Iterable[tuple[int, Thing]]) -> dict[int, list[Thing]]:
-    """For each number that stands first the things that stand beside it; of another one there are none."""
-    table: dict[int, list[Thing]] = defaultdict(list)
-    for first, second in pairs:
-        table[first].append(second)
-    return table
-
-
-def spread(neighbours: Neighbours, begin: Iterable[Spot],
-           passes: Callable[[Spot], bool]) -> set[Spot]:
+def spread(neighbours: Neighbours, begin: Iterable[Spot], passes: Callable[[Spot], bool]) -> set[Spot]:
     """The first spots, and all that they lead to through spots that pass."""
     return reached(begin, lambda spot: filter(passes, neighbours[spot]))
 
 
-class Moves:
-    """Where move paths (a variable, its fields, their fields) are assigned and moved out of."""
+class MovePaths:
+    """The move paths of a function (a variable, its fields, their fields), and where they are assigned and moved out of."""
 
-    def __init__(self, tables: Tables, after: Neighbours):
-        self.after = after
+    def __init__(self, tables: Tables):
+        self.variable, self.parent = dict(tables.path_is_var), dict(tables.child_path)
         self.root = {variable: path for path, variable in tables.path_is_var}
-        self.parent = dict(tables.child_path)
-        self.children = table_of((parent, child) for child, parent in tables.child_path)
-        self.assigned = table_of(tables.path_assigned_at_base)
-        self.moved = table_of(tables.path_moved_at_base)
-
-    def maybe_initialised(self, variable: int) -> set[Spot]:
-        """The spots behind which some part of the variable may be initialised."""
-        filled: set[Spot] = set()
-        parts = [self.root[variable]] if variable in self.root else []
-        for part in parts:
-            parts.extend(self.children[part])
-            whole = list(self.with_ancestors(part))
-            moved = {spot for path in whole for spot in self.moved[path]}
-            assigned = (spot for path in whole for spot in self.assigned[path])
-            filled |= spread(self.after, assigned, lambda spot: spot not in moved)
-        return filled
+        self.children = grouped((parent, child) for child, parent in tables.child_path)
+        self.assigned, self.moved = grouped(tables.path_assigned_at_base), grouped(tables.path_moved_at_base)
 
     def with_ancestors(self, path: int) -> Iterator[int]:
         """The path, what it is a part of, and so on up to the variable."""
@@ -102,3 +65,21 @@ class Moves:
         while path in self.parent:
             path = self.parent[path]
             yield path
+
+    def with_parts(self, path: int) -> Iterator[int]:
+        """The path, and all that are parts of it."""
+        yield path
+        for child in self.children[path]:
+            yield from self.with_parts(child)
+
+    def spots(self, table: dict[int, list[Spot]], path: int) -> set[Spot]:
+        """Where a table has the path, or what it is a part of."""
+        return {spot for one in self.with_ancestors(path) for spot in table[one]}
+
+    def maybe_initialised(self, variable: int, after: Neighbours) -> set[Spot]:
+        """The spots behind which some part of the variable may be initialised."""
+        filled: set[Spot] = set()
+        for part in self.with_parts(self.root[variable]) if variable in self.root else ():
+            moved = self.spots(self.moved, part)
+            filled |= spread(after, self.spots(self.assigned, part), lambda spot: spot not in moved)
+        return filled

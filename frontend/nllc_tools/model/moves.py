@@ -5,14 +5,13 @@ E0382: a place is accessed that may be moved out of, E0381: that may have no val
 """
 
 import re
-from collections import deque
 from typing import Container, Iterable, Iterator, NamedTuple, Optional
 
-from nllc_tools.model.liveness import neighbours, table_of
+from nllc_tools.base.walks import backwards, shortest
+from nllc_tools.model.liveness import MovePaths, neighbours
 from nllc_tools.rustc.errors import Error
 from nllc_tools.rustc.mir.body import Body
 from nllc_tools.rustc.mir.captures import MADE, home_of
-from nllc_tools.rustc.mir.spans import Span
 from nllc_tools.rustc.tables import Location, Spot, Tables
 
 MOVES = ("E0381", "E0382", "E0384")
@@ -23,24 +22,19 @@ class Gone(NamedTuple):
     """An access: where, rustc's code, the variable, the statements since which it is wrong, a walk from the first."""
 
     location: Location
-    span: Optional[Span]
     code: str
     variable: int
     since: list[Location]
     walk: list[Location]
 
 
-class Moved:
-    """The paths of a function (a variable, its fields, their fields): where they are moved, assigned, accessed."""
+class Moved(MovePaths):
+    """The paths of a function, also where they are accessed."""
 
     def __init__(self, tables: Tables, body: Body):
+        super().__init__(tables)
         self.body = body
         self.before, _ = neighbours(tables)
-        self.variable = dict(tables.path_is_var)
-        self.parent = dict(tables.child_path)
-        self.children = table_of((parent, child) for child, parent in tables.child_path)
-        self.moved = table_of(tables.path_moved_at_base)
-        self.assigned = table_of(tables.path_assigned_at_base)
         self.accessed = tables.path_accessed_at_base
 
     def of(self, errors: Iterable[Error]) -> Iterator[tuple[Error, Gone]]:
@@ -55,10 +49,9 @@ class Moved:
                 taken.add(found.location)
                 yield error, found
 
-    def of_one(self, error: Error, taken: Container[Location] = ()) -> Optional[Gone]:
-        table = [(path, spot) for path in self.assigned for spot in self.assigned[path]] \
-            if error.code == "E0384" else self.accessed
-        rows = sorted(table, key=lambda row: row[1])
+    def of_one(self, error: Error, taken: Container[Location]) -> Optional[Gone]:
+        rows = [(path, spot) for path, spots in self.assigned.items() for spot in spots] if error.code == "E0384" else self.accessed
+        rows = sorted(rows, key=lambda row: row[1])
         there = [row for row in rows if self.begins_at(row[1].location, error)]
         for path, spot in there or [row for row in rows if self.is_of_macro(*row, error)]:
             found = self.assigned_before(path, spot) if error.code == "E0384" else self.gone_at(path, spot)
@@ -75,19 +68,18 @@ class Moved:
 
     def root_of(self, path: int) -> int:
         """The variable of which a path is a part."""
-        while path in self.parent:
-            path = self.parent[path]
-        return self.variable.get(path, 0)
+        *_, root = self.with_ancestors(path)
+        return self.variable.get(root, 0)
 
     def begins_at(self, location: Location, error: Error) -> bool:
         """Whether a statement, or the closure that it makes, begins where the error is."""
         text, span, _ = self.body.statements[location]
-        if span is None or (span.file, span.first) > (error.places[0][0], error.line):
+        file = error.places[0][0]
+        if span is None or (span.file, span.first) > (file, error.line):
             return False
         made = MADE.search(text) or self.made_of(text)
         begins = (span, home_of(made[1], span)) if made else (span,)
-        return any(one is not None and (one.file, one.first, one.column) == (error.places[0][0], error.line, error.column)
-                   for one in begins)
+        return any(one is not None and (one.file, one.first, one.column) == (file, error.line, error.column) for one in begins)
 
     def made_of(self, text: str) -> Optional[re.Match[str]]:
         """The closure for which a statement borrows, if it does."""
@@ -98,11 +90,12 @@ class Moved:
     def gone_at(self, path: int, spot: Spot) -> Optional[Gone]:
         """The moves, or the missing value, by which an access to a path is wrong."""
         for part in self.with_parts(path):
-            came_by = self.back(spot, {one for each in self.with_ancestors(part) for one in self.assigned[each]})
-            moved = [one for one in came_by if one in self.moves_of(part)]
+            came_by = self.back(spot, self.spots(self.assigned, part))
+            moves = self.spots(self.moved, part)
+            moved = [one for one in came_by if one in moves]
             real = [one for one in moved if self.is_move(one)]
             if moved:
-                return self.gone(path, spot, "E0382" if real else "E0381", real, came_by, moved)
+                return self.gone(path, spot, "E0382" if real else "E0381", real, came_by, moved[0])
         return None
 
     def assigned_before(self, path: int, spot: Spot) -> Optional[Gone]:
@@ -112,43 +105,24 @@ class Moved:
         earlier = [one for one in came_by if one in self.assigned[path]]
         if local is None or local.is_mutable or not earlier:
             return None
-        return self.gone(path, spot, "E0384", earlier, came_by, earlier)
+        return self.gone(path, spot, "E0384", earlier, came_by, earlier[0])
 
     def gone(self, path: int, spot: Spot, code: str, since: list[Spot], came_by: dict[Spot, Optional[Spot]],
-             nearest: list[Spot]) -> Gone:
-        walk: list[Location] = []
-        at: Optional[Spot] = nearest[0]
-        while at is not None:
-            walk.append(at.location)
-            at = came_by[at]
-        return Gone(spot.location, self.body.statements[spot.location].span, code, self.root_of(path),
-                    list(dict.fromkeys(one.location for one in since)), list(dict.fromkeys(walk)))
+             nearest: Spot) -> Gone:
+        walk = [nearest, *backwards(came_by, nearest, lambda following: following)]
+        return Gone(spot.location, code, self.root_of(path), locations(since), locations(walk))
 
     def back(self, spot: Spot, stops: set[Spot]) -> dict[Spot, Optional[Spot]]:
         """The spots from which a walk leads to this one past no stop, nearest first, each with the next one."""
-        came_by: dict[Spot, Optional[Spot]] = {}
-        todo = deque((before, spot) for before in self.before[spot])
-        while todo:
-            here, following = todo.popleft()
-            if here not in came_by and here not in stops:
-                came_by[here] = following if following != spot else None
-                todo.extend((before, here) for before in self.before[here])
-        return came_by
+        def onward(here: Spot) -> list[Spot]:
+            return [before for before in self.before[here] if before not in stops]
+
+        return shortest(onward(spot), lambda here: ((before, here) for before in onward(here)))
 
     def is_move(self, spot: Spot) -> bool:
         return spot.is_mid and not self.body.statements[spot.location].text.startswith("StorageDead")
 
-    def moves_of(self, part: int) -> set[Spot]:
-        return {one for each in self.with_ancestors(part) for one in self.moved[each]}
 
-    def with_ancestors(self, path: int) -> Iterator[int]:
-        yield path
-        while path in self.parent:
-            path = self.parent[path]
-            yield path
-
-    def with_parts(self, path: int) -> Iterator[int]:
-        """The path, and all that are parts of it."""
-        yield path
-        for child in self.children[path]:
-            yield from self.with_parts(child)
+def locations(spots: list[Spot]) -> list[Location]:
+    """Where these are, each once."""
+    return list(dict.fromkeys(spot.location for spot in spots))

@@ -1,5 +1,7 @@
 """Places in the source, as rustc writes them."""
 
+from __future__ import annotations
+
 import re
 from functools import lru_cache
 from typing import NamedTuple, Optional
@@ -16,6 +18,16 @@ class Span(NamedTuple):
     last: int
     column: int = 0
     end: int = 0    # the column behind it
+
+    def is_inside(self, outer: Span) -> bool:
+        """Whether the other place has each character of this one."""
+        return self.file == outer.file and (outer.first, outer.column) <= (self.first, self.column) \
+            and (self.last, self.end) <= (outer.last, outer.end)
+
+    def overlaps(self, other: Span) -> bool:
+        """Whether both have a character."""
+        return self.file == other.file and (self.first, self.column) < (other.last, other.end) \
+            and (other.first, other.column) < (self.last, self.end)
 
 
 def extent(places: list[Span]) -> Optional[Span]:

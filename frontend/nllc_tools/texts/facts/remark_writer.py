@@ -4,58 +4,38 @@
 """
 
 import os
+from collections import defaultdict
+from functools import cache
 from typing import Iterable, Iterator, Optional
 
-from nllc_tools.base.walks import backwards, shortest
-from nllc_tools.model.blame import Blame, word_of
-from nllc_tools.model.liveness import table_of
+from nllc_tools.base.grouping import grouped
+from nllc_tools.model.blame import Blame, Chain, word_of
 from nllc_tools.model.loans import Loan, Loans
 from nllc_tools.model.moves import MOVES, Moved
-from nllc_tools.model.points import Points
-from nllc_tools.model.regions import STATIC, Regions
-from nllc_tools.rustc.dumps import Dump
+from nllc_tools.model.regions import STATIC
+from nllc_tools.model.typed_function import TypedFunction
 from nllc_tools.rustc.errors import INVOCATION, Error, Label
-from nllc_tools.rustc.mir.body import Body, Local, Reason, methods_on_results
+from nllc_tools.rustc.mir.body import Local, methods_on_results
 from nllc_tools.rustc.mir.captures import captures
 from nllc_tools.rustc.mir.debug_places import Place
-from nllc_tools.rustc.mir.desugarings import Desugarings
+from nllc_tools.rustc.mir.desugarings import desugarings_of
 from nllc_tools.rustc.mir.spans import Span
-from nllc_tools.rustc.tables import Location, Tables
+from nllc_tools.rustc.tables import Location
 
 
-class Inside:
-    """The constraints between regions that are equal everywhere, for which a text has one name."""
+class RemarkWriter:
+    """Makes the lines of one function, whose source rustc calls by one path, and this process by another."""
 
-    def __init__(self, reasons: list[Reason], regions: Regions):
-        self.regions = regions
-        self.onwards: dict[int, list[Reason]] = {}
-        for reason in reasons:
-            if regions.find(reason.sup) == regions.find(reason.sub) and reason.sup != reason.sub:
-                self.onwards.setdefault(reason.sup, []).append(reason)
+    def __init__(self, function: TypedFunction, source: str, path: str):
+        self.dump, self.tables, self.body = function.dump, function.tables, function.body
+        self.number, self.regions, self.names = function.points.number, function.regions, function.names
+        self.source, self.desugarings = source, desugarings_of(source, path)
+        self.loans = Loans(function.dump, function.tables, function.body)
+        self.blame = Blame(function.body, self.desugarings)
 
-    def onward(self, region: int) -> list[Reason]:
-        """A shortest chain from the region to the universal one that it equals."""
-        goal = self.regions.find(region)
-        if not self.regions.is_universal(goal):
-            return []
-        came_by = shortest([region], lambda one: ((reason.sub, reason) for reason in self.onwards.get(one, ())))
-        return backwards(came_by, goal, lambda reason: reason.sup)[::-1]
-
-
-class Beside:
-    """Makes the lines of one function."""
-
-    def __init__(self, dump: Dump, tables: Tables, body: Body, points: Points, regions: Regions,
-                 names: dict[int, str], source: str, desugarings: Desugarings):
-        self.dump, self.tables, self.body, self.source = dump, tables, body, source
-        self.number, self.regions, self.names = points.number, regions, names
-        self.desugarings = desugarings
-
-    def lines(self, errors: Iterable[Error]) -> list[str]:
-        own = Loans(self.dump, self.tables, self.body)
-        errors = list(errors)
-        return [*self.loan_lines(own), *self.reason_lines(), *self.blame_lines(own), *self.use_lines(),
-                *(self.used_lines(own) if errors else ()), *self.called_lines(), *self.received_lines(own),
+    def lines(self, errors: list[Error]) -> list[str]:
+        return [*self.loan_lines(), *self.reason_lines(), *self.blame_lines(), *self.use_lines(),
+                *(self.used_lines() if errors else ()), *self.called_lines(), *self.received_lines(),
                 *self.captured_lines(), *self.need_lines(), *self.gone_lines(errors), *self.rustc_lines(errors)]
 
     def name(self, region: int) -> Optional[str]:
@@ -72,13 +52,13 @@ class Beside:
     def numbers(self, locations: Iterable[Location]) -> str:
         return " ".join(str(n) for n in sorted({self.number[one] for one in locations}))
 
-    def loan_lines(self, own: Loans) -> Iterator[str]:
-        yield f"loans: {len(own.loans)}"
-        for number, loan in sorted(own.loans.items()):
+    def loan_lines(self) -> Iterator[str]:
+        yield f"loans: {len(self.loans.loans)}"
+        for number, loan in sorted(self.loans.loans.items()):
             yield f"loan {number}: {self.loan(loan)}"
             if loan.killed:
                 yield f"killed {number}: {self.numbers(loan.killed)}"
-        for location, way, span, loans in own.against:
+        for location, way, span, loans in self.loans.against:
             what = f" of {self.path(way.place)}" if way.place else ""
             after = f" after {self.number[way.begun]}" if way.begun else ""
             numbers = " ".join(map(str, loans))
@@ -104,30 +84,37 @@ class Beside:
     def reason_lines(self) -> Iterator[str]:
         """Why each constraint is asked, at the point of its statement or everywhere."""
         said: dict[str, None] = {}
-        inside = Inside(self.body.reasons, self.regions)
+        inside = cache(self.inside)
         for reason in self.body.reasons:
             sup, sub = self.name(reason.sup), self.name(reason.sub)
             if not sup or not sub or sup == sub:
                 continue
             at = "" if reason.location is None else f" at {self.number[reason.location]}"
-            for one in (*inside.onward(reason.sub)[::-1], reason):
+            for one in (*inside(reason.sub)[::-1], reason):
                 word = word_of(one)
                 if word:
                     said[f"asked {sup} {sub}{at}, {self.place(one.span)}: {word}"] = None
         return iter(said)
 
-    def blame_lines(self, own: Loans) -> Iterator[str]:
+    def inside(self, region: int) -> Chain:
+        """The chain from a region to the universal one that it equals everywhere, for which a text has one name."""
+        find = self.regions.find
+        goal = find(region)
+        if goal == region or not self.regions.is_universal(goal):
+            return []
+        return self.blame.shortest(region, [goal], lambda one: find(one.sup) == find(one.sub)).get(goal, [])
+
+    def blame_lines(self) -> Iterator[str]:
         """Which constraint rustc names where a universal region, or a loan, would have to outlive another one."""
-        blame = Blame(self.body, self.desugarings)
         universals = [region for region in self.regions.universals if self.name(region)]
         known = set(self.tables.known_placeholder_subset)
         begins = [(self.name(region), region) for region in universals if region != STATIC]
-        begins += [(str(number), loan.region) for number, loan in sorted(own.ending().items())]
+        begins += [(str(number), loan.region) for number, loan in sorted(self.loans.ending().items())]
         for name, begin in begins:
             goals = [goal for goal in universals if goal != begin and (begin, goal) not in known]
-            for goal, chain in sorted(blame.chains(begin, goals).items()):
-                named = blame.named(chain)
-                whose = " of a closure" if blame.is_of_closure(named) else ""
+            for goal, chain in sorted(self.blame.chains(begin, goals).items()):
+                named = self.blame.named(chain)
+                whose = " of a closure" if self.blame.is_of_closure(named) else ""
                 yield f"blamed {name} {self.name(goal)}, {self.place(named.span)}: {word_of(named) or 'step'}{whose}"
 
     def use_lines(self) -> Iterator[str]:
@@ -135,24 +122,19 @@ class Beside:
         for word, origins, events in (
                 ("uses", self.tables.use_of_var_derefs_origin, self.tables.var_used_at),
                 ("drops", self.tables.drop_of_var_derefs_origin, self.tables.var_dropped_at)):
-            at: dict[int, set[Location]] = {}
-            for variable, spot in events:
-                at.setdefault(variable, set()).add(spot.location)
-            found: dict[int, set[Location]] = {}
+            at = grouped((variable, spot.location) for variable, spot in events)
+            found: dict[int, set[Location]] = defaultdict(set)
             for variable, region in origins:
-                region = self.regions.find(region)
-                if not self.regions.is_universal(region):
-                    found.setdefault(region, set()).update(at.get(variable, ()))
-            for region, locations in sorted(found.items()):
-                if locations:
-                    yield f"{word} {self.name(region)}: {self.numbers(locations)}"
+                found[self.regions.find(region)].update(at.get(variable, ()))
+            yield from (f"{word} {self.name(region)}: {self.numbers(locations)}" for region, locations in sorted(found.items())
+                        if locations and not self.regions.is_universal(region))
 
-    def used_lines(self, own: Loans) -> Iterator[str]:
+    def used_lines(self) -> Iterator[str]:
         """Where a statement stands that uses a variable with lifetimes, in a line of something that goes against loans.
 
         That is read where there is something to tell.
         """
-        lines = {span.last for one in own.against for span in (one.span, self.body.statements[one.location].span)
+        lines = {span.last for one in self.loans.against for span in (one.span, self.body.statements[one.location].span)
                  if span and span.file == self.source}
         variables = {variable for variable, _ in self.tables.use_of_var_derefs_origin} if lines else ()
         used = {spot.location for variable, spot in self.tables.var_used_at if variable in variables}
@@ -161,36 +143,39 @@ class Beside:
             if span and span.file == self.source and span.first == span.last and span.last in lines:
                 yield f"used {self.number[location]}, {self.place(span)}"
 
+    def is_told(self, location: Location, place: Optional[Span]) -> bool:
+        """Whether a place of a statement at a point is in the source, and in another line than that in which it begins."""
+        begin = self.body.statements[location].span
+        return place is not None and begin is not None and location in self.number and place.file == self.source \
+            and place.first != begin.first
+
     def called_lines(self) -> Iterator[str]:
         """Where the function stands that a statement over several lines calls, if that is in another line."""
         for location, statement in sorted(self.body.statements.items()):
             span = statement.span
             function = self.body.function_span(location) if span and span.first != span.last else None
-            if function and span and location in self.number and self.place(function) != "elsewhere" \
-                    and function.first != span.first:
+            if self.is_told(location, function):
                 yield f"called {self.number[location]}, {self.place(function)}"
 
-    def received_lines(self, own: Loans) -> Iterator[str]:
+    def received_lines(self) -> Iterator[str]:
         """Where a method stands, in another line, that is called on a variable whose value comes from the tail of a block.
 
         That is so for the loans of the tail: the use that rustc names then is that of the method.
         """
         for location, function in methods_on_results(self.body):
-            span, made = self.body.statements[location].span, []
-            if location in self.number and span and function.first != span.first and self.place(function) != "elsewhere" \
-                    and self.desugarings.before(function) == ".":
-                made = [number for number, loan in sorted(own.loans.items())
+            if self.is_told(location, function) and self.desugarings.before(function) == ".":
+                span = self.body.statements[location].span
+                made = [str(number) for number, loan in sorted(self.loans.loans.items())
                         if loan.location != location and loan.target is not None
-                        and is_overlapping(span, self.body.locals.get(loan.target))]
-            if made:
-                yield f"called {self.number[location]} by {' '.join(map(str, made))}, {self.place(function)}"
+                        and is_declared_within(self.body.locals.get(loan.target), span)]
+                if made:
+                    yield f"called {self.number[location]} by {' '.join(made)}, {self.place(function)}"
 
     def captured_lines(self) -> Iterator[str]:
         """Where a closure over several lines uses what it takes of a region, if that is in another line than its begin."""
-        regions = table_of(self.tables.use_of_var_derefs_origin)
+        regions = grouped(self.tables.use_of_var_derefs_origin)
         for location, variable, use in captures(self.dump, self.body):
-            begin = self.body.statements[location].span
-            if use and begin and location in self.number and self.place(use) != "elsewhere" and use.first != begin.first:
+            if self.is_told(location, use):
                 names = {name for region in regions.get(variable, ()) if (name := self.name(region))}
                 yield from (f"captured {self.number[location]} {name}, {self.place(use)}" for name in sorted(names))
 
@@ -224,11 +209,9 @@ class Beside:
             yield from (f"help: {one}" for one in error.helps)
 
 
-def is_overlapping(span: Optional[Span], local: Optional[Local]) -> bool:
+def is_declared_within(local: Optional[Local], place: Optional[Span]) -> bool:
     """Whether a variable is declared within a place, or around it."""
-    other = local.span if local else None
-    return span is not None and other is not None and span.file == other.file \
-        and (span.first, span.column) < (other.last, other.end) and (other.first, other.column) < (span.last, span.end)
+    return local is not None and local.span is not None and place is not None and place.overlaps(local.span)
 
 
 def place_words(label: Label) -> str:
