@@ -174,8 +174,8 @@ def in_one_process():
     nllc.has_faults = lambda text: bool(quick_report(text).faults)
     pages.write_page = lambda path, content: None
     answers.MOST_NAMES = sys.maxsize
-    rust.find_program = lambda: None
-    rust.side_by_side = functions.side_by_side = lambda work, things, few=0: map(work, things)
+    pages.find_program = lambda: None
+    pages.side_by_side = functions.side_by_side = lambda work, things, few=0: map(work, things)
 
 
 def answer_of(file, edition, options=()):

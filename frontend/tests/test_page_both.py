@@ -101,7 +101,7 @@ class Both(unittest.TestCase):
         self.assertEqual(two_answers.counted(content), "no fault")
         self.assertEqual(two_answers.counted(content.everywhere), "1 fault")
         self.assertEqual([content.facts.names[r] for r in two_answers.differing(content, content.everywhere)], ["a", "p"])
-        told = list(second_answer.lines(content, content.everywhere))
+        told = list(second_answer.lines(content))
         self.assertEqual(told[0], "with each constraint at all points: 1 fault, in place of no fault")
         made = page(content)
         self.assertIn('<section class="answers"', made)
@@ -114,7 +114,7 @@ class Both(unittest.TestCase):
 
     def test_both_the_same(self):
         content = with_both(text(1, "universal 'a", "return 0", "constraint 'static 'a 0"))
-        self.assertEqual(list(second_answer.lines(content, content.everywhere)), [])
+        self.assertEqual(list(second_answer.lines(content)), [])
         self.assertIn("Each region holds the same in both.", answers_part.both(content))
 
     def test_no_second_answer(self):
@@ -139,17 +139,17 @@ class Command(Folder):
         text = file_bytes(EXAMPLES, "overwritten.facts")
         path = self.write("overwritten.facts", text)
         self.enterContext(unittest.mock.patch.dict("os.environ", {"NLLC": self.path("nllc")}))
-        said = answers.answered(path, text, False, everywhere=True)
+        said = answers.answered(path, text, answers.How(everywhere=True))
         self.assertEqual(said.faults, 0)
         self.assertEqual(said.lines[0], "with each constraint at all points: 1 fault, in place of no fault")
-        self.assertEqual(answers.answered(path, text, False).lines, [])
+        self.assertEqual(answers.answered(path, text).lines, [])
 
     def test_a_page_where_something_is_told(self):
         from nllc_tools.commands import answers
         self.enterContext(unittest.mock.patch.dict("os.environ", {"NLLC": self.path("nllc")}))
         for name, has_page in (("running", False), ("as_static", True)):
             text = file_bytes(EXAMPLES, f"{name}.facts")
-            said = answers.answered(self.write(f"{name}.facts", text), text, False, has_page=False)
+            said = answers.answered(self.write(f"{name}.facts", text), text, answers.How(has_page=False))
             self.assertEqual(bool(said.page), has_page)
             self.assertEqual(os.path.exists(self.path(f"{name}.html")), has_page)
 

@@ -72,7 +72,7 @@ class Commands(Folder):
 
     def answered(self):
         with mock.patch.dict(os.environ, {"NLLC": self.path("nllc")}):
-            return answers.answered(self.path("pick.facts"), file_bytes(SAMPLES, "pick.facts"), True)
+            return answers.answered(self.path("pick.facts"), file_bytes(SAMPLES, "pick.facts"), answers.How(in_full=True))
 
     # The help has three ways out. The first is that of rustc 1.95, which refuses pick.rs with "consider adding the following bound:
     # `'b: 'a`"; the second is docs/FROM-RUST.md's "give both arguments one lifetime". With either one rustc takes pick.rs. The third

@@ -8,8 +8,8 @@ from typing import Container, Optional
 from nllc_tools.base.refusal import refusing
 
 
-def make_folder(folder: str) -> None:
-    with refusing(f"{folder} can't be made", "give another: -o FOLDER", 3):
+def make_folder(folder: str, advice: str = "give another: -o FOLDER") -> None:
+    with refusing(f"{folder} can't be made", advice, 3):
         os.makedirs(folder, exist_ok=True)
 
 

@@ -1,47 +1,35 @@
-"""The words of `nllc.sh facts`, and what it does with them; what `nllc.sh rust` shares with it."""
+"""The command `nllc.sh facts`: a facts text of each function."""
 
-import argparse
 from typing import NamedTuple, Sequence
 
-from nllc_tools.base.command_line import Parser
 from nllc_tools.base.files import write_whole
 from nllc_tools.base.refusal import Refusal
 from nllc_tools.base.rooms import guarded_room
 from nllc_tools.base.sentences import plural
 from nllc_tools.base.streams import guarded
 from nllc_tools.base.workers import side_by_side
-from nllc_tools.commands.inputs import (add_words, check, folder_of, make_ready, problem_of, refuse_nothing, show,
-                                        split_words, take_input, tell_unanswered)
+from nllc_tools.commands.inputs import Asked, asked_for_texts, check, make_ready, refuse_nothing, show, tell_unanswered
 from nllc_tools.rustc.functions import Function
+from nllc_tools.texts.facts.conversion import convert
 from nllc_tools.texts.facts.writer import facts_text
+
+ABOUT = """\
+Writes a facts text of each function of a Rust file or a Cargo project, by what rustc says of them, and prints their paths. Needs
+rustc 1.95 or later (its stable one will do). OPTIONS are those of rustc, or of cargo check. Status 0: all were written; 2:
+refused, all or in part; 3: failed."""
 
 
 def main(words: Sequence[str]) -> int:
     """Does what the words say; the status is 0, 2 for what is refused, 3 for what failed."""
-    return guarded("facts", lambda: write_texts(read_words(words)))
+    return guarded("facts", lambda: write_texts(asked_for_texts("facts", ABOUT, words)))
 
 
-def read_words(words: Sequence[str]) -> argparse.Namespace:
-    own, options = split_words(words)
-    parser = Parser(
-        "facts", "Writes a facts text of each function of a Rust file or a Cargo project, by what rustc "
-        "says of them, and prints their paths. Needs rustc 1.95 or later (its stable one will do). "
-        "OPTIONS are those of rustc, or of cargo check. Status 0: all were written; 2: refused, all or in part; 3: failed.",
-        usage="FILE.rs|FOLDER [FUNCTION ..] [-o FOLDER] [-p PACKAGE] [--edition E] [-- OPTIONS]",
-        formatter_class=argparse.HelpFormatter)
-    add_words(parser, "where the texts go")
-    asked = parser.parse_args(own)
-    asked.options = options
-    take_input(asked)
-    return asked
-
-
-def write_texts(asked: argparse.Namespace) -> int:
+def write_texts(asked: Asked) -> int:
     with guarded_room("nll-facts.") as room:
-        found = check(asked, room, folder_of(asked))
+        found = check(asked, room, asked.folder())
         refuse_nothing(asked.path, found)
         show(found.errors)
-        make_ready(folder_of(asked))
+        make_ready(asked.folder())
         texts = list(side_by_side(write_text, found.functions))
     for function, text in zip(found.functions, texts):
         print(text.failure or f"{function.path}  {function.name}: {text.size}")
@@ -57,7 +45,7 @@ class Text(NamedTuple):
 
 def write_text(function: Function) -> Text:
     try:
-        problem = problem_of(function)
+        problem = convert(function.dump, function.root, function.errors)
         write_whole(function.path, facts_text(problem))
     except Refusal as refusal:
         return Text("", str(refusal))

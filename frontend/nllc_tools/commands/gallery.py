@@ -7,6 +7,7 @@ import re
 import sys
 import tempfile
 from dataclasses import replace
+from typing import Sequence
 
 from nllc_tools.base import files
 from nllc_tools.base.command_line import called
@@ -44,7 +45,7 @@ SCHEDULES = {"each_other": "Two owners whose regions let each other grow, event 
              "late_hole": "A growth comes late and fills a hole, so that another region gets what is after it."}
 
 
-def main(words):
+def main(words: Sequence[str]) -> int:
     """Makes the pages and the gallery's own; the status."""
     if len(words) > 1 or words[:1] == ["--help"]:
         is_asked = words[:1] == ["--help"]
@@ -57,7 +58,7 @@ def main(words):
     return guarded("gallery", lambda: make(folder))
 
 
-def make(folder):
+def make(folder: str) -> int:
     os.makedirs(folder, exist_ok=True)
     cards = {title: list(of_functions(functions(name))) for name, title in FILES.items()}
     cards["Bodies written as MIR"] = [of_text(mir_text(name), *told) for name, told in MIR_TEXTS.items()]
@@ -73,7 +74,7 @@ def make(folder):
     return 0
 
 
-def functions(name):
+def functions(name: str) -> list[Shown]:
     """The pages of a Rust file's functions, in the order of the file."""
     path = os.path.join(EXAMPLES, "gallery", f"{name}.rs")
     with tempfile.TemporaryDirectory(prefix="nll-gallery.") as room:
@@ -81,20 +82,20 @@ def functions(name):
             if make_facts([path, "-o", room]):
                 raise Refusal(f"{path} has no facts texts: {said.getvalue().strip().splitlines()[-1]}", 3)
         contents = [content_of(path, files.read_bytes(path)) for path in (os.path.join(room, name) for name in sorted(os.listdir(room)))]
-    contents.sort(key=lambda content: (content.source.first, content.facts.remarks.function))
+    contents.sort(key=lambda one: (one.source.first if one.source else 0, one.facts.remarks.function))
     return [Shown(file_name(content.facts.remarks.function), name_of(content), content) for content in contents]
 
 
-def file_name(function):
+def file_name(function: str) -> str:
     return re.sub(r"\W+", "-", function).strip("-") + ".html"
 
 
-def mir_text(name):
+def mir_text(name: str) -> Shown:
     path = os.path.join(EXAMPLES, f"{name}.mir")
     return Shown(f"{name}.mir.html", f"{name}.mir", texts.content_of(path, files.read_bytes(path)))
 
 
-def schedule_card(folder, name, said):
+def schedule_card(folder: str, name: str, said: str) -> str:
     """The page of a schedule, and its card."""
     paths = [os.path.join(EXAMPLES, f"{name}.{kind}") for kind in ("facts", "schedule")]
     content = schedule.content_of(schedule.words_of(paths))

@@ -2,13 +2,13 @@
 
 import json
 import math
+from typing import Sequence
 
-from nllc_tools.base.command_line import Parser, called
+from nllc_tools.base.command_line import called
 from nllc_tools.base.refusal import Refusal
 from nllc_tools.base.sentences import visible
 from nllc_tools.base.streams import guarded, tell
-from nllc_tools.commands.page import read
-from nllc_tools.commands.texts import content_of
+from nllc_tools.commands.texts import content_of, parser_of_texts, read
 from nllc_tools.views.json.answer import answer
 
 ABOUT = """\
@@ -20,22 +20,11 @@ status 0: no text has a fault; 1: one has; 2: the arguments, a file or a text wa
 output can't be written. The status is the highest of all texts"""
 
 
-def main(arguments):
-    """Runs the command on these words; its status."""
-    return guarded("json", lambda: run(words_of(arguments)))
+def main(words: Sequence[str]) -> int:
+    return guarded("json", lambda: max(map(answered, parser_of_texts("json", ABOUT, STATUSES).parse_args(words).texts)))
 
 
-def words_of(arguments):
-    parser = Parser("json", ABOUT, STATUSES)
-    parser.add_argument("texts", metavar="FILE", nargs="+", help="a facts text or a MIR text; - is standard input")
-    return parser.parse_args(arguments)
-
-
-def run(asked):
-    return max(map(answered, asked.texts))
-
-
-def answered(path):
+def answered(path: str) -> int:
     """Prints the line of a text, or why there is none, and goes on; the status is that of the text."""
     try:
         content = content_of(*read(path), most=math.inf)

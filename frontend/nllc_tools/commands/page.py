@@ -1,15 +1,16 @@
 """The command `nllc.sh page`: pages of facts texts and MIR texts, and an index of them."""
 
+import argparse
 import os
-import sys
-import webbrowser
 from dataclasses import replace
+from itertools import count
+from typing import Iterator, Sequence
 
 from nllc_tools.base import files
-from nllc_tools.base.command_line import Parser
 from nllc_tools.base.refusal import Refusal
 from nllc_tools.base.streams import guarded
-from nllc_tools.commands.texts import content_of
+from nllc_tools.commands.inputs import open_page
+from nllc_tools.commands.texts import content_of, parser_of_texts, read
 from nllc_tools.views.html.folder import write_index
 from nllc_tools.views.html.index_rows import NAME
 from nllc_tools.views.html.page import page
@@ -28,22 +29,21 @@ status 0: the pages were written; 2: the arguments, a file or a text was refused
 couldn't be written; each with one line on standard error"""
 
 
-def main(arguments):
+def main(words: Sequence[str]) -> int:
     """Runs the command on these words; its status."""
-    return guarded("page", lambda: run(words_of(arguments)))
+    return guarded("page", lambda: run(words_of(words)))
 
 
-def words_of(arguments):
-    parser = Parser("page", ABOUT, STATUSES)
-    parser.add_argument("texts", metavar="FILE", nargs="+", help="a facts text or a MIR text; - is standard input")
+def words_of(words: Sequence[str]) -> argparse.Namespace:
+    parser = parser_of_texts("page", ABOUT, STATUSES)
     parser.add_argument("-o", dest="folder", metavar="FOLDER", default=FOLDER,
                         help=f"where the pages go; without it {FOLDER}")
     parser.add_argument("--open", action="store_true", help="open the page in the browser")
-    return parser.parse_args(arguments)
+    return parser.parse_args(words)
 
 
-def run(asked):
-    make_folder(asked.folder)
+def run(asked: argparse.Namespace) -> int:
+    files.make_folder(asked.folder, "name another by -o FOLDER")
     paths = []
     for path, name in zip(asked.texts, page_names(asked.texts)):
         out = os.path.join(asked.folder, name)
@@ -55,28 +55,16 @@ def run(asked):
     paths.append(write_index(asked.folder, [os.path.basename(path) for path in paths], with_older=True))
     print(paths[-1])
     if asked.open:
-        webbrowser.open(f"file://{os.path.abspath(paths[0 if len(paths) == 2 else -1])}")
+        open_page(paths[0 if len(paths) == 2 else -1])
     return 0
 
 
-def read(path):
-    """What a page calls a text, and its bytes."""
-    return ("stdin", sys.stdin.buffer.read()) if path == "-" else (path, files.read_bytes(path))
-
-
-def make_folder(folder):
-    try:
-        os.makedirs(folder, exist_ok=True)
-    except OSError as error:
-        raise Refusal(f"{folder} can't be made: {error.strerror}; name another by -o FOLDER", 3) from None
-
-
-def page_names(paths):
+def page_names(paths: Sequence[str]) -> Iterator[str]:
     """A facts text's page has its name, any other's the name with its ending; of one name several are numbered."""
     taken = set()
     for path in paths:
-        name, number = "stdin" if path == "-" else os.path.basename(path).removesuffix(".facts"), 1
-        while (made := f"{name}-{number}.html" if number > 1 else f"{name}.html") in taken:
-            number += 1
+        name = "stdin" if path == "-" else os.path.basename(path).removesuffix(".facts")
+        names = (f"{name}-{number}.html" if number > 1 else f"{name}.html" for number in count(1))
+        made = next(one for one in names if one not in taken)
         taken.add(made)
         yield made

@@ -1,10 +1,12 @@
-"""What a page has, of a facts text or a MIR text."""
+"""What a page has, of a facts text or a MIR text; the words of commands that take texts."""
 
 import os
+import sys
 import tempfile
+from typing import NamedTuple, Optional
 
-from nllc_tools.base import world_program
-from nllc_tools.base.command_line import called
+from nllc_tools.base import files, world_program
+from nllc_tools.base.command_line import Parser, called
 from nllc_tools.base.refusal import Refusal
 from nllc_tools.judge import content
 from nllc_tools.judge.content import Content
@@ -15,6 +17,23 @@ from nllc_tools.texts.mir.problem import is_mir_text, problem_in
 from nllc_tools.texts.mir.remarks import remarks_of
 from nllc_tools.texts.source import Source
 from nllc_tools.views.html.standings import STANDINGS
+
+
+class Text(NamedTuple):
+    """What a text is called, and its bytes."""
+
+    path: str
+    text: bytes
+
+
+def parser_of_texts(word: str, about: str, statuses: Optional[str] = None) -> Parser:
+    parser = Parser(word, about, statuses)
+    parser.add_argument("texts", metavar="FILE", nargs="+", help="a facts text or a MIR text; - is standard input")
+    return parser
+
+
+def read(path: str) -> Text:
+    return Text("stdin", sys.stdin.buffer.read()) if path == "-" else Text(path, files.read_bytes(path))
 
 
 def content_of(path: str, text: bytes, most: float = content.MOST_POINTS) -> Content:
@@ -37,8 +56,14 @@ def content_of_mir(path: str, text: bytes, most: float) -> Content:
                    report.standing, problem=problem)
 
 
-def problem_of(path: str, text: bytes) -> tuple[Facts, str]:
+class Told(NamedTuple):
     """The problem of a MIR text, and by which program, in words."""
+
+    facts: Facts
+    by: str
+
+
+def problem_of(path: str, text: bytes) -> Told:
     with tempfile.TemporaryDirectory(prefix="nll-page.") as folder:
         schedule, copy = os.path.join(folder, "schedule"), os.path.join(folder, "text")
         with open(schedule, "w", encoding="utf-8") as file:
@@ -47,4 +72,4 @@ def problem_of(path: str, text: bytes) -> tuple[Facts, str]:
             file.write(text)
         printed = world_program.run(["1", "round", copy, schedule])
     facts, _ = problem_in(printed.text, path)
-    return facts, f"The text’s problem from {printed.program}, {STANDINGS[printed.standing]}."
+    return Told(facts, f"The text’s problem from {printed.program}, {STANDINGS[printed.standing]}.")

@@ -10,6 +10,7 @@ from nllc_tools.judge.summary import Summary
 from nllc_tools.model.said import Error as OwnError
 from nllc_tools.rustc.compiler import version
 from nllc_tools.rustc.errors import Error
+from nllc_tools.rustc.functions import Checked
 from nllc_tools.views.terminal import finding_lines
 
 MOST_NAMES = 20
@@ -62,6 +63,29 @@ def tell_silent(silent: list[tuple[bool, str]]) -> None:
     if names:
         more = f" and {len(names) - MOST_NAMES} more" if len(names) > MOST_NAMES else ""
         print(f"no fault: {', '.join(names[:MOST_NAMES])}{more}")
+
+
+def tell_all(checked: Checked, answers: list[Answer]) -> None:
+    """The lines of all functions that have any, the names of the others, and what else rustc refuses."""
+    summaries = [answer.said for answer in answers if answer.said]
+    places = {place for said in summaries for place in places_of(said)}
+    shown: set[Shown] = set()
+    silent, loud = [], set()
+    for function, answer in zip(checked.functions, answers):
+        lines = told(answer.said, places, checked.errors, shown) if answer.said else [answer.failure]
+        if lines:
+            print(f"{answer.said.name}: {verdict(answer.said)}" if answer.said else f"{function.name}: no answer")
+            loud.add(outermost(function.name))
+        elif answer.said:
+            silent.append((function.dump.is_closure, function.name, answer.said.name))
+        for line in lines:
+            print(f"  {line}")
+    tell_silent([(is_closure, name) for is_closure, function, name in silent if outermost(function) not in loud])
+    told_of = {(said.source, *error[:3]) for said in summaries for error in said.errors}
+    for error in checked.errors:
+        if error.places and (error.path, error.line, error.column, " ".join(error.words().split())) not in told_of:
+            print(f"{error.where()}: {version()}: {error.words()}\n"
+                  f"    not inside a function, so it has no answer here")
 
 
 def verdict(said: Summary) -> str:

@@ -1,12 +1,17 @@
 """Faults and loans for a terminal, step by step."""
 
+from typing import Iterator
+
 from nllc_tools.base import sentences
-from nllc_tools.base.sentences import Code
+from nllc_tools.base.sentences import Code, Sentence
 from nllc_tools.judge import asking_statements, chain_sentences
+from nllc_tools.judge.content import Content
+from nllc_tools.judge.faults import Cause, LoanFault
 from nllc_tools.model import region_names
+from nllc_tools.model.facts import Facts
 
 
-def lines(content):
+def lines(content: Content) -> Iterator[str]:
     """A line for each fault, and one for each step of its chain; then the same for each loan."""
     facts = content.facts
     for fault in content.faults:
@@ -14,11 +19,17 @@ def lines(content):
         yield f"    {sentences.plain([region_names.end(facts, fault.sub), ' reaches'])}"
         for step in fault.steps:
             yield f"    {sentences.plain(chain_sentences.step_brief(facts, step))}"
-    for fault in content.loans:
-        yield from loan_lines(facts, fault)
+    for loan in content.loans:
+        yield from loan_lines(facts, loan)
 
 
-def loan_lines(facts, fault):
+def needs(content: Content) -> list[str]:
+    """What a closure needs of the function around it."""
+    return [sentences.plain(["requires of the enclosing function that ", region_names.tick(content.facts, longer), " outlive ",
+                             region_names.tick(content.facts, shorter)]) for longer, shorter in content.needs]
+
+
+def loan_lines(facts: Facts, fault: LoanFault) -> Iterator[str]:
     point, cause, region = fault.against.point, fault.cause, Code(f"'{fault.loan.region}")
     yield sentences.plain(["why ", region, f" holds point {facts.point_name(point)}, ", *asking_statements.statement(facts, point), ":"])
     yield "    " + sentences.plain(first_line(facts, cause, point))
@@ -30,7 +41,7 @@ def loan_lines(facts, fault):
         yield "    " + sentences.plain([*asked, sup, " must outlive ", sub, *way])
 
 
-def first_line(facts, cause, point):
+def first_line(facts: Facts, cause: Cause, point: int) -> Sentence:
     name = region_names.tick(facts, cause.region)
     if facts.is_universal(cause.region):
         return [name, " outlives the function, so it holds each point"]
