@@ -10,7 +10,7 @@ from nllc_tools.judge.names import name_of
 from nllc_tools.judge.verdicts import verdict_of
 from nllc_tools.views.html.badges import badge
 from nllc_tools.views.html.escaping import script_data, text
-from nllc_tools.views.html.graph import drawing, layout, lines
+from nllc_tools.views.html.graph import drawing, lines
 from nllc_tools.views.html.graph.region_graph import region_graph
 from nllc_tools.views.html.icon import icon
 from nllc_tools.views.html.index_rows import row_mark, row_of
@@ -33,12 +33,10 @@ def page(content):
     """The whole page, as one text."""
     facts = content.facts
     graph = drawing.graph_of(facts)
-    shape = layout.shape_of(len(graph.lines), graph.edges)
     found = blocks(facts)
     rows = sum(len(its) for _, its in found)
     is_large = rows > MOST_ROWS
-    folded, large = drawing.many(facts, graph, shape) if is_large else \
-        (drawing.folded(facts, graph, shape), None)
+    folded, large = drawing.many(graph) if is_large else (drawing.folded(graph), None)
     verdict = verdict_of(content)
     return fill("page.html", {
         "title": text(title_of(content)),
@@ -57,7 +55,7 @@ def page(content):
         "source": source_list(content, is_large),
         "points": point_list(facts, found, is_large),
         "folded": folded,
-        "statements": "" if is_large else drawing.unfolded(facts, graph, shape),
+        "statements": "" if is_large else drawing.unfolded(graph),
         "outlives": region_graph(facts),
         "view": "statements" if rows <= FEW_ROWS else "folded",
         "ends": end_list(facts),
