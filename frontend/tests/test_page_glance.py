@@ -235,10 +235,12 @@ class Heads(unittest.TestCase):
     def test_rows_without_lines_and_with_equal_names(self):
         row = index_rows.Row("last", "a.facts", None, 1, 1, 0, None)
         rows = [("a.html", row), ("b.html", row._replace(source="b.facts")), ("c.html", row._replace(name="c", source="c.facts"))]
-        made = index.index_page(rows, "{{lacks}}{{rows}}", "")
-        self.assertTrue(made.startswith("no-line no-rustc no-said<tbody>"))
-        self.assertEqual(re.findall(r'<span class="file">(.*?)<', made), ["a", "b"])
-        self.assertTrue(index.index_page([("a.html", row._replace(line=3, rustc="E0499", told=[[3, "x"]]))], "{{lacks}}|", "").startswith("|"))
+        made = index.index_parts(rows)
+        self.assertEqual(made["lacks"], "no-line no-rustc no-said")
+        self.assertTrue(made["rows"].startswith("<tbody>"))
+        self.assertEqual(re.findall(r'<span class="file">(.*?)<', made["rows"]), ["a", "b"])
+        told = [index_rows.Told(3, "x")]
+        self.assertEqual(index.index_parts([("a.html", row._replace(line=3, rustc="E0499", told=told))])["lacks"], "")
 
     def test_title_and_icon(self):
         content = content_of(*LOAN)

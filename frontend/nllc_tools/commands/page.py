@@ -10,7 +10,7 @@ from nllc_tools.base.command_line import Parser
 from nllc_tools.base.refusal import Refusal
 from nllc_tools.base.streams import guarded
 from nllc_tools.commands.texts import content_of
-from nllc_tools.views.html.folder import write_index
+from nllc_tools.views.html.index import write_index
 from nllc_tools.views.html.index_rows import NAME
 from nllc_tools.views.html.page import page
 

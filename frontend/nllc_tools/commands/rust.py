@@ -22,7 +22,7 @@ from nllc_tools.commands.inputs import (add_words, check, folder_of, make_ready,
 from nllc_tools.rustc.compiler import version
 from nllc_tools.rustc.functions import Checked, Function
 from nllc_tools.texts.facts.writer import facts_text
-from nllc_tools.views.html.folder import write_index
+from nllc_tools.views.html.index import write_index
 from nllc_tools.views.json import diagnostics
 from nllc_tools.views.terminal.answers import Answer, Shown, outermost, places_of, tell_silent, told, verdict
 

@@ -1,18 +1,14 @@
 """Puts the page together: templates, and the parts that depend on the text."""
 
 import os
-import re
 
 from nllc_tools.base import grouping, sentences
 from nllc_tools.base.sentences import visible
 from nllc_tools.judge.differences import differences, handed_out, passed_by
 from nllc_tools.judge.names import name_of
 from nllc_tools.judge.verdicts import verdict_of
-from nllc_tools.views.html.badges import badge
-from nllc_tools.views.html.escaping import script_data, text
 from nllc_tools.views.html.graph import drawing, lines
 from nllc_tools.views.html.graph.region_graph import region_graph
-from nllc_tools.views.html.icon import icon
 from nllc_tools.views.html.index_rows import row_mark, row_of
 from nllc_tools.views.html.parts.answers_part import both
 from nllc_tools.views.html.parts.difference_list import difference_list
@@ -20,8 +16,7 @@ from nllc_tools.views.html.parts.fault_list import fault_list
 from nllc_tools.views.html.parts.loan_list import loan_list
 from nllc_tools.views.html.parts.point_list import blocks, end_list, point_list, source_list, tabs
 from nllc_tools.views.html.parts.region_list import region_list, region_words
-from nllc_tools.views.html.standings import STANDINGS
-from nllc_tools.views.html.template_files import compact, template
+from nllc_tools.views.html.writing import STANDINGS, badge, compact, fill, icon, script_data, text
 
 SCRIPTS = ("values.js", "show.js", "words.js", "large.js", "choose.js", "graph.js", "keys.js", "start.js")
 
@@ -43,8 +38,8 @@ def page(content):
         "icon": icon(verdict.kind),
         "back": back(content),
         "row": row_mark(row_of(content, name_of(content))),
-        "css": compact(template("look.css") + template("code.css") + template("page.css")),
-        "js": compact("\n".join(map(template, SCRIPTS))),
+        "css": compact("look.css", "code.css", "page.css"),
+        "js": compact(*SCRIPTS),
         "name": text(name_of(content)),
         "about": about(content),
         "verdict": verdict_part(verdict, content),
@@ -61,11 +56,6 @@ def page(content):
         "ends": end_list(facts),
         "data": script_data(data(content, found, large)),
     })
-
-
-def fill(name, parts):
-    """The template with each `{{part}}` in place; what is put in isn't looked at again."""
-    return re.sub(r"\{\{(\w+)\}\}", lambda found: parts[found[1]], template(name))
 
 
 def about(content):

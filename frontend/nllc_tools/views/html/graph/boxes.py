@@ -7,7 +7,7 @@ from typing import Sequence
 
 from nllc_tools.base.sentences import visible
 from nllc_tools.model.facts import Facts
-from nllc_tools.views.html.escaping import text as escape
+from nllc_tools.views.html.writing import text as escape
 from nllc_tools.views.html.graph import lines
 from nllc_tools.views.html.graph.layout import Shape, Size, Spot
 from nllc_tools.views.html.graph.lines import Line, Row

@@ -9,7 +9,7 @@ from nllc_tools.base.grouping import grouped
 from nllc_tools.base.walks import reached
 from nllc_tools.judge.chain_sentences import unwinds
 from nllc_tools.model.facts import Facts
-from nllc_tools.views.html.escaping import text as escape
+from nllc_tools.views.html.writing import text as escape
 from nllc_tools.views.html.graph import layout, lines
 from nllc_tools.views.html.graph.boxes import (CELL, HEAD, LETTER, PAD, PITCH, ROW, Rows, columns, folded_cells, folded_size,
                                                room_for_words)

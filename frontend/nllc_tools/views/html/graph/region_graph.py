@@ -12,7 +12,7 @@ from nllc_tools.base.sentences import visible
 from nllc_tools.base.walks import reached
 from nllc_tools.judge import asking_statements, chain_sentences
 from nllc_tools.model.facts import ALL, Constraint, Facts
-from nllc_tools.views.html.escaping import text
+from nllc_tools.views.html.writing import text
 from nllc_tools.views.html.graph import layout
 from nllc_tools.views.html.graph.layout import Size, Spot
 from nllc_tools.views.html.graph.order import walk_in_depth

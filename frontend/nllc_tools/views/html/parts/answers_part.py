@@ -2,7 +2,7 @@
 
 from nllc_tools.base import sentences
 from nllc_tools.judge.two_answers import alone, counted, differing
-from nllc_tools.views.html.escaping import sentence, text
+from nllc_tools.views.html.writing import sentence, text
 
 
 def both(content):

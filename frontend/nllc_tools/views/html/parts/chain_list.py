@@ -11,7 +11,7 @@ from nllc_tools.judge.findings import finding
 from nllc_tools.judge.findings.lifetime_findings import names_of
 from nllc_tools.judge.names import is_inner, lifetime_words
 from nllc_tools.model import region_names
-from nllc_tools.views.html.escaping import sentence, text
+from nllc_tools.views.html.writing import sentence, text
 
 MOST_LETTERS = 60   # of a line of the source; what is longer is cut
 

@@ -2,7 +2,7 @@
 
 from nllc_tools.judge import chain_sentences
 from nllc_tools.judge.findings import advice, lifetime_findings
-from nllc_tools.views.html.escaping import sentence
+from nllc_tools.views.html.writing import sentence
 from nllc_tools.views.html.parts.chain_list import advice_part, chain_list, more_part, told
 
 

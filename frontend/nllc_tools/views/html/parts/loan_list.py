@@ -5,7 +5,7 @@ from nllc_tools.judge.findings import advice, loan_findings
 from nllc_tools.judge.names import lifetime_words
 from nllc_tools.model import region_names
 from nllc_tools.model.facts import ALL
-from nllc_tools.views.html.escaping import sentence, text
+from nllc_tools.views.html.writing import sentence, text
 from nllc_tools.views.html.parts.chain_list import (advice_part, by_way_of, main_step, more_part, outlives_words,
                                                     step_line, step_part, stretches)
 

@@ -5,7 +5,7 @@ from nllc_tools.judge import asking_statements
 from nllc_tools.judge.labels import labels_of
 from nllc_tools.model import region_names
 from nllc_tools.texts.source import is_mir, pieces
-from nllc_tools.views.html.escaping import text
+from nllc_tools.views.html.writing import text
 from nllc_tools.views.html.graph import lines
 
 MOST_IN_PART = 100  # rows, where no remark names blocks

@@ -3,7 +3,7 @@
 from nllc_tools.base import grouping, sentences
 from nllc_tools.judge import chain_sentences
 from nllc_tools.judge.names import region_text
-from nllc_tools.views.html.escaping import text
+from nllc_tools.views.html.writing import text
 
 
 def region_list(content):
