@@ -55,6 +55,16 @@ def line_link(line: int) -> str:
     return f'<a href="#line-{line}" data-line="{line}">line {line}</a>'
 
 
+def back(index: str) -> str:
+    """A link to the page of all pages, where there is one."""
+    return f'<a class="back" href="./{text(index)}">‹ all pages</a>' if index else ""
+
+
+def about(path: str, *counts: str) -> str:
+    """What a page is of, and how much of each there is."""
+    return f'<span class="path">{text(path)}</span> <span>{" · ".join(counts)}</span>'
+
+
 def badge(kind: str, said: str) -> str:
     """A verdict."""
     return f'<p class="verdict {kind}"><span aria-hidden="true">{MARKS[kind]}</span> {text(said)}</p>'

@@ -7,7 +7,7 @@ from nllc_tools.base.nllc import PROVED
 from nllc_tools.base.sentences import plural
 from nllc_tools.model.facts import Facts
 from nllc_tools.texts.schedule_states import State
-from nllc_tools.views.html.writing import STANDINGS, compact, fill, icon, script_data, text
+from nllc_tools.views.html.writing import STANDINGS, about, back, compact, fill, icon, script_data, text
 from nllc_tools.views.schedule.content import Content
 from nllc_tools.views.schedule.event_part import constraint_list, event_list, event_parts
 from nllc_tools.views.schedule.owner_part import lane_parts, owner_part
@@ -19,7 +19,7 @@ MOST_EDGES = 60     # of more edges none is written out
 
 def page(content: Content, index: str = "") -> str:
     """The whole page, as one text; with the page of all pages, a link back to it."""
-    run = content.run
+    facts, run = content.facts, content.run
     name = text(os.path.basename(content.schedule_path))
     return fill("schedule.html", {
         "title": name,
@@ -27,7 +27,8 @@ def page(content: Content, index: str = "") -> str:
         "css": compact("look.css", "schedule.css"),
         "js": compact("schedule.js"),
         "name": name,
-        "about": (f'<a class="back" href="./{text(index)}">‹ all pages</a>' if index else "") + about(content),
+        "about": back(index) + about(content.facts_path, plural(len(run.states) - 1, "event"), plural(run.owners, "owner"),
+                                     plural(len(facts.names), "region"), plural(len(facts.constraints), "constraint")),
         "last": str(len(run.states) - 1),
         "balances": "".join(f"<b {span.attributes()}>{balance}</b>"
                             for balance, span in values(run.states, lambda state: state.balance)),
@@ -38,19 +39,12 @@ def page(content: Content, index: str = "") -> str:
         "lanes": lane_parts(content),
         "waits": wait_part(content),
         "constraints": constraint_list(content),
-        "graph": graph(content.facts),
+        "graph": graph(facts),
         "values": text("\n".join([f"balance {run.states[-1].balance}", *run.values])),
         "provenance": provenance(content),
         "data": script_data([[state.event.owner, lane_of(state)] if number else [None, None]
                              for number, state in enumerate(run.states)]),
     })
-
-
-def about(content: Content) -> str:
-    facts, run = content.facts, content.run
-    counts = [plural(len(run.states) - 1, "event"), plural(run.owners, "owner"),
-              plural(len(facts.names), "region"), plural(len(facts.constraints), "constraint")]
-    return f'<span class="path">{text(content.facts_path)}</span> <span>{" · ".join(counts)}</span>'
 
 
 def graph(facts: Facts) -> str:
