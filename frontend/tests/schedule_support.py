@@ -32,7 +32,7 @@ def content_of(facts, events, owners, deal="round"):
     """The content of a page of these texts."""
     read = read_facts(facts, "TEXT")
     run = read_run(printed(facts, events, owners, deal), len(read.names), read.points + read.universals)
-    return Content(read, run, ("TEXT.facts", "TEXT.schedule"), "reference", "unknown")
+    return Content(read, run, "TEXT.facts", "TEXT.schedule", "reference", "unknown")
 
 
 def example(name):

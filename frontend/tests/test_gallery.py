@@ -18,11 +18,11 @@ from test_page_glance import LOAN, SOURCE, content_of
 
 from nllc_tools.commands import gallery
 from nllc_tools.rustc.compiler import version
-from nllc_tools.views.gallery import cards
-from nllc_tools.views.gallery.cards import Shown
+from nllc_tools.views import gallery as cards
+from nllc_tools.views.gallery import Shown
 from nllc_tools.views.html.page import SCRIPTS
 from nllc_tools.views.html.index_rows import row_in
-from nllc_tools.views.html.template_files import compact, template
+from nllc_tools.views.html.writing import compact
 
 GOLDEN = os.path.join(page_support.HERE, "golden", "gallery.txt")
 QUICK = os.path.join(page_support.HERE, "quick_nllc.py")
@@ -66,8 +66,8 @@ class Kept(unittest.TestCase):
     """What docs/ has of pages has the style and the script that pages have today; else run frontend/tests/browser/pictures.py."""
 
     def test_style_and_script(self):
-        style = compact(template("look.css") + template("code.css") + template("page.css"))
-        script = compact("\n".join(map(template, SCRIPTS)))
+        style = compact("look.css", "code.css", "page.css")
+        script = compact(*SCRIPTS)
         for path in glob(os.path.join(page_support.ROOT, "docs", "pages", "*.html")):
             made = page_support.file_bytes(path).decode()
             if 'content="nll-page"' in made:

@@ -23,10 +23,10 @@ from nllc_tools.model.faults import faults  # noqa: E402
 from nllc_tools.texts.facts.reader import read_facts  # noqa: E402
 from nllc_tools.model.values import Values  # noqa: E402
 from nllc_tools.texts.source import Source  # noqa: E402
-from nllc_tools.views.html.index import index_page  # noqa: E402
+from nllc_tools.views.html.index import index_parts  # noqa: E402
 from nllc_tools.views.html.index_rows import Row  # noqa: E402
 from nllc_tools.views.html.page import page  # noqa: E402
-from nllc_tools.views.html.template_files import template  # noqa: E402
+from nllc_tools.views.html.writing import fill  # noqa: E402
 
 WIDTHS = (320, 414, 768, 1280, 1920)
 OVERFLOWING = """[...document.querySelectorAll("html, main, .lists, .fault, .step, .chosen, table")]
@@ -101,8 +101,7 @@ class Browser(unittest.TestCase):
 
     def test_widths_of_an_index(self):
         rows = [(f"{n}.html", Row("name" * 3 * n, "file.rs", n, 10 ** n, 5, n % 2, n % 3)) for n in range(5)]
-        style = template("look.css") + template("index.css")
-        self.opened("index.html", index_page(rows, template("index.html"), style))
+        self.opened("index.html", fill("index.html", index_parts(rows)))
 
     def test_a_choice_leaves_a_phone_where_it_is(self):
         shown = self.browser.open(self.write("pick.html", page(sample())), 360, 740)

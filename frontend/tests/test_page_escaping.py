@@ -13,9 +13,8 @@ from nllc_tools.judge.content import Content, Fault
 from nllc_tools.model.chains import chain
 from nllc_tools.model.faults import faults
 from nllc_tools.texts.source import Source, pieces
-from nllc_tools.views.html.escaping import script_data, sentence
-from nllc_tools.views.html.page import SCRIPTS, fill, page
-from nllc_tools.views.html.template_files import template
+from nllc_tools.views.html.page import SCRIPTS, page
+from nllc_tools.views.html.writing import fill, script_data, sentence, template
 
 NASTY = """</script><img src=x onerror=alert(1)> & "quoted" 'and' `so` {{data}} $& <!-- \\u003c --> ]]>"""
 

@@ -16,10 +16,8 @@ from nllc_tools.model.chains import chain
 from nllc_tools.texts.source import Source
 from nllc_tools.views.html import index, index_rows
 from nllc_tools.views.html.page import page, start, title_of
-from nllc_tools.views.html.parts.chain_list import chain_list, more_part, stretches
-from nllc_tools.views.html.parts.difference_list import difference_list
-from nllc_tools.views.html.parts.fault_list import fault_list
-from nllc_tools.views.html.parts.loan_list import loan_list
+from nllc_tools.views.html.parts.chain_list import chain_of_fault, stretches
+from nllc_tools.views.html.parts.finding_list import finding_list, more_part
 from nllc_tools.views.html.parts.point_list import code_part, source_list
 from quick_solver import quick_values
 
@@ -67,14 +65,14 @@ class Verdicts(unittest.TestCase):
     def test_rustc_refuses_alone(self):
         content = content_of("# loans: 0", "# rustc 4:5: E0506: cannot assign to `v` because it is borrowed")
         self.assertEqual(verdict_of(content), ("differs", "rustc refuses, nllc doesn’t", "E0506"))
-        made = difference_list(content)
+        made = finding_list(content)
         self.assertIn('data-line="4">line 4</a>: E0506: cannot assign to <code>v</code> because', made)
         self.assertIn("nllc: no fault there;", made)
 
     def test_both_refuse(self):
         content = content_of(*LOAN, "# rustc 4:5: E0506: cannot assign to `v` because it is borrowed")
         self.assertEqual(verdict_of(content), ("faulty", "1 loan error", "E0506"))
-        self.assertEqual(difference_list(content), "")
+        self.assertEqual(re.findall(r'<section class="([^"]*)"', finding_list(content)), ["faults loans"])
 
     def test_neither(self):
         self.assertEqual(verdict_of(content_of("# loans: 0")), ("fine", "no fault", "no such error"))
@@ -120,7 +118,7 @@ class Labels(unittest.TestCase):
                              "# rustc 5:5: E0382: use of moved value: `a`")
         self.assertEqual([(line, one.kind, one.words) for line, its in sorted(labels.labels_of(content).items())
                           for one in its], [(3, "made", "moved here"), (5, "against", "used after the move")])
-        made = difference_list(content)
+        made = finding_list(content)
         self.assertIn('<section class="faults" aria-label="Moves and assignments">', made)
         rows = [("a.html", index_rows.row_of(content, "grow"))]
         self.assertIn("1 function with errors of moves<", index.whole_verdict(rows))
@@ -166,15 +164,15 @@ class Steps(unittest.TestCase):
     def test_steps_between_regions_without_a_name_are_one(self):
         content = with_fault(*FOLDED)
         steps = content.faults[0].steps[::-1]
-        found = stretches(content.facts, steps, lambda constraint: constraint.sub)
+        found = stretches(content.facts, steps)
         self.assertEqual([len(stretch) for stretch in found], [3, 1])
-        made = chain_list(content, content.faults[0])
+        made = chain_of_fault(content, content.faults[0])
         self.assertIn("must outlive the lifetime in <code>x</code>", made)
         self.assertIn("3 steps, by way of <code>&#x27;r2</code> and <code>&#x27;r3</code>.", made)
         self.assertEqual(made.count('<ol class="inner">'), 1)
 
     def test_the_way_of_a_loan(self):
-        made = loan_list(content_of(*LOAN))
+        made = finding_list(content_of(*LOAN))
         self.assertIn("The lifetime in <code>a</code> holds line 4: line 5 uses it", made)
         self.assertIn("the borrow <code>&#x27;r1</code> must outlive the lifetime in <code>a</code>", made)
         self.assertIn("2 steps, by way of <code>&#x27;r2</code>.", made)
@@ -185,7 +183,7 @@ class Advice(unittest.TestCase):
         content = content_of(*LOAN)
         self.assertTrue(plain(advice.of_loan(content, content.loans[0])).startswith(
             "move the use in line 5 above line 4; or clone"))
-        self.assertIn("<b>What to do</b>: move the use", loan_list(content))
+        self.assertIn("<b>What to do</b>: move the use", finding_list(content))
 
     def test_codes(self):
         content = content_of(*LOAN)
@@ -199,14 +197,14 @@ class Advice(unittest.TestCase):
                 "consider adding the bound `'b: 'a` to the signature; or write `'a` in place of `'b`"))
         static = plain(advice.of_fault(content, Fault(2, 0, [])))
         self.assertTrue(static.startswith("ask for `'static` in the signature"))
-        self.assertIn("<b>What to do</b>: consider adding the bound ", fault_list(content))
+        self.assertIn("<b>What to do</b>: consider adding the bound ", finding_list(content))
 
 
 class More(unittest.TestCase):
     def test_what_rustc_says_beyond_the_error(self):
         said = finding.Finding(None, "", [], [], None, [
             ["help: ", "consider ", Code("'a")], ["invariant: ", "behind ", Code("&mut")], ["line 3 with names: ", Code("x")]])
-        self.assertEqual(re.findall(r'<p class="more">(.*?)</p>', more_part(said)),
+        self.assertEqual(re.findall(r'<p class="more">(.*?)</p>', more_part(said, [])),
                          ["<b>rustc’s help</b>: consider <code>&#x27;a</code>.",
                           "<b>Invariance</b>: behind <code>&amp;mut</code>.", "Line 3 with names: <code>x</code>."])
 
@@ -215,11 +213,11 @@ class More(unittest.TestCase):
         for helps, shown in (("", 0), ("# help: consider adding the following bound: `'b: 'a`", 0),
                              ("# help: consider `'static`", 1)):
             content = with_fault("# rustc 3:5: lifetime may not live long enough", *[helps] * bool(helps), *FOLDED)
-            self.assertEqual(fault_list(content).count("rustc’s help"), shown, helps)
-        self.assertNotIn("rustc’s help", loan_list(content_of(*LOAN)))
+            self.assertEqual(finding_list(content).count("rustc’s help"), shown, helps)
+        self.assertNotIn("rustc’s help", finding_list(content_of(*LOAN)))
 
     def test_a_region_that_outlives_the_function(self):
-        self.assertIn("<code>&#x27;a</code> holds line 4: it outlives the function.", loan_list(content_of(*OUTGOING)))
+        self.assertIn("<code>&#x27;a</code> holds line 4: it outlives the function.", finding_list(content_of(*OUTGOING)))
 
 
 class Heads(unittest.TestCase):
@@ -235,10 +233,12 @@ class Heads(unittest.TestCase):
     def test_rows_without_lines_and_with_equal_names(self):
         row = index_rows.Row("last", "a.facts", None, 1, 1, 0, None)
         rows = [("a.html", row), ("b.html", row._replace(source="b.facts")), ("c.html", row._replace(name="c", source="c.facts"))]
-        made = index.index_page(rows, "{{lacks}}{{rows}}", "")
-        self.assertTrue(made.startswith("no-line no-rustc no-said<tbody>"))
-        self.assertEqual(re.findall(r'<span class="file">(.*?)<', made), ["a", "b"])
-        self.assertTrue(index.index_page([("a.html", row._replace(line=3, rustc="E0499", told=[[3, "x"]]))], "{{lacks}}|", "").startswith("|"))
+        made = index.index_parts(rows)
+        self.assertEqual(made["lacks"], "no-line no-rustc no-said")
+        self.assertTrue(made["rows"].startswith("<tbody>"))
+        self.assertEqual(re.findall(r'<span class="file">(.*?)<', made["rows"]), ["a", "b"])
+        told = [index_rows.Told(3, "x")]
+        self.assertEqual(index.index_parts([("a.html", row._replace(line=3, rustc="E0499", told=told))])["lacks"], "")
 
     def test_title_and_icon(self):
         content = content_of(*LOAN)

@@ -84,7 +84,7 @@ class Folding(unittest.TestCase):
 class Layers(unittest.TestCase):
     def drawn(self, boxes, edges, size=(40, 20, 0)):
         shape = layout.shape_of(boxes, edges)
-        return shape, layout.place(shape, [size] * boxes)
+        return shape, layout.place(shape, [layout.Size(*size)] * boxes)
 
     def random_graph(self, seed):
         draw = random.Random(seed)
@@ -114,7 +114,7 @@ class Layers(unittest.TestCase):
                                  list(range(level[path[0]], level[path[-1]] + 1)))
                 self.assertEqual((path[-1], path[0]) if edge in shape.turned
                                  else (path[0], path[-1]), edge)
-            corners = list(drawn.corners.values())
+            corners = drawn.corners
             self.assertEqual(len(corners), boxes)
             for at, (x, y) in enumerate(corners):
                 self.assertTrue(0 <= x and x + 100 <= drawn.width and 0 <= y
@@ -127,7 +127,7 @@ class Layers(unittest.TestCase):
             draw = random.Random(seed)
             numbers = [draw.randrange(8) for _ in range(draw.randint(0, 12))]
             pairs = sum(a > b for at, b in enumerate(numbers) for a in numbers[:at])
-            self.assertEqual(order.inversions(numbers, 8), pairs)
+            self.assertEqual(order.inversions(numbers), pairs)
 
     def test_what_hangs_together_stands_together(self):
         shape, _ = self.drawn(5, [(0, 2), (1, 3), (3, 1)])
@@ -140,10 +140,10 @@ class Layers(unittest.TestCase):
             boxes, edges = self.random_graph(seed)
             shape = layout.shape_of(boxes, edges)
             count = 1 + max(number for layer in shape.layers for number in layer)
-            _, below = order.neighbours(shape.paths, count)
+            _, below = order.neighbours(shape.paths.values(), count)
             layers = [sorted(layer) for layer in shape.layers]
-            first = order.crossings(order.by_first_visit(layers, below, count), below, count)
-            last = order.crossings(shape.layers, below, count)
+            first = order.crossings(order.by_first_visit(layers, below), below)
+            last = order.crossings(shape.layers, below)
             self.assertLessEqual(last, first)
             before, after = before + first, after + last
         self.assertLess(after, 0.8 * before)
@@ -151,16 +151,15 @@ class Layers(unittest.TestCase):
     def test_no_crossing_where_none_is_needed(self):
         edges = [(0, 1), (0, 2), (0, 3), (1, 6), (2, 5), (3, 4), (4, 7), (5, 7), (6, 7)]
         shape, _ = self.drawn(8, edges)
-        _, below = order.neighbours(shape.paths, 8)
-        self.assertEqual(order.crossings(shape.layers, below, 8), 0)
+        _, below = order.neighbours(shape.paths.values(), 8)
+        self.assertEqual(order.crossings(shape.layers, below), 0)
 
 
 class Drawings(unittest.TestCase):
     def test_each_point_has_a_cell(self):
         facts = read_facts(file_bytes(SAMPLES, "pick.facts"), "pick.facts")
         graph = drawing.graph_of(facts)
-        shape = layout.shape_of(len(graph.lines), graph.edges)
-        for svg in (drawing.folded(facts, graph, shape), drawing.unfolded(facts, graph, shape)):
+        for svg in (drawing.folded(graph), drawing.unfolded(graph)):
             for point in range(facts.points):
                 self.assertEqual(svg.count(f'<g class="cell" data-p="{point}"'), 1)
             for edge in ("4-5", "4-7", "6-7"):

@@ -9,8 +9,7 @@ from nllc_tools.base import nllc
 from nllc_tools.judge.content import Content, Fault
 from nllc_tools.model.chains import chain
 from nllc_tools.texts.source import Source
-from nllc_tools.views.html.parts.chain_list import told
-from nllc_tools.views.html.parts.fault_list import fault_list
+from nllc_tools.views.html.parts.finding_list import finding_list, told
 from nllc_tools.views.html.parts.point_list import point_list, said_at, source_list, tabs
 from nllc_tools.views.html.parts.region_list import barcode, region_list
 
@@ -90,14 +89,14 @@ class Lines(unittest.TestCase):
                          ["7", "9"])
 
     def test_the_fault(self):
-        made = fault_list(self.content)
+        made = finding_list(self.content)
         self.assertEqual("".join(bare(re.search(r'<p class="told">.*?</p>', made)[0])),
                          "Data that lives for &#x27;b enters at line 7, best = second, and at line 9, best, it "
                          "has to live for &#x27;a; nothing declares that &#x27;b outlives &#x27;a.")
         self.assertIn('<a href="#line-7" data-line="7">', made)
 
     def test_steps_from_the_cause_to_the_end(self):
-        made = fault_list(self.content)
+        made = finding_list(self.content)
         self.assertEqual(re.findall(r'data-r="(\d)" data-walk="([\d,]*)" data-end="(\d)"', made),
                          [("3", "6,7,8", "1"), ("1", "8", "1")])
         steps = [" ".join(bare(step)) for step in re.findall(r"<summary><h3>.*?</h3></summary>", made)]

@@ -9,7 +9,7 @@ from nllc_tools.views.html.graph import region_graph
 
 
 def groups(facts):
-    return sorted(tuple(box.regions) for box in region_graph.boxes_of(region_graph.pairs_of(facts)))
+    return sorted(map(tuple, region_graph.groups_of(region_graph.pairs_of(facts))))
 
 
 def slow_groups(facts):
@@ -46,11 +46,11 @@ class RegionGraph(unittest.TestCase):
         """The words in full name each point or line, also where the short ones don't."""
         facts = facts_of(9, "region 'a", "region 'b", *(f"next {p} {p + 1}" for p in range(8)),
                          *(f"constraint 'a 'b {p}" for p in range(1, 6)))
-        short, full = region_graph.place_words(facts, 1, 2, [1, 2, 3, 4, 5])
-        self.assertEqual(short, "point 1, point 2, point 3 +2")
-        self.assertEqual(full, "point 1, point 2, point 3, point 4, point 5")
-        self.assertIn(f"must outlive &#x27;b: {full}", region_graph.region_graph(facts))
-        self.assertEqual(region_graph.place_words(facts, 1, 2, list(range(9)))[0], "everywhere")
+        words = region_graph.place_words(facts, 1, 2, [1, 2, 3, 4, 5])
+        self.assertEqual(words.short, "point 1, point 2, point 3 +2")
+        self.assertEqual(words.full, "point 1, point 2, point 3, point 4, point 5")
+        self.assertIn(f"must outlive &#x27;b: {words.full}", region_graph.region_graph(facts))
+        self.assertEqual(region_graph.place_words(facts, 1, 2, list(range(9))).short, "everywhere")
 
     def test_no_picture(self):
         self.assertIn("No region must outlive", region_graph.region_graph(facts_of(1, "region 'a", "constraint 'a 'a 0")))

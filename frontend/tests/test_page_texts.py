@@ -14,7 +14,7 @@ from nllc_tools.texts.facts.values import read_values
 from nllc_tools.texts.mir.problem import problem_in
 from nllc_tools.texts.mir.remarks import MirText
 from nllc_tools.views.html import index, index_rows
-from nllc_tools.views.html.folder import write_index
+from nllc_tools.views.html.index import write_index
 from schedule_support import printed, schedule
 
 SLOW = os.path.join(ROOT, "check", "reference", "reference_states.py")
@@ -117,7 +117,7 @@ class Index(Command):
         self.assertEqual(re.findall(r'<a href="\./([^"]*)"', made),
                          ["drop.mir.html", "pick.html", "pick.html#line=7"])
         rows = dict(index_rows.rows_in(self.path("pages")))
-        said = [7, "`'b` must outlive `'a`, but the signature doesn't declare it"]
+        said = index_rows.Told(7, "`'b` must outlive `'a`, but the signature doesn't declare it")
         self.assertEqual(rows["pick.html"], ("pick", self.path("pick.rs"), 4, 9, 4, 1, None, "faulty", "1 fault",
                                              None, [said], True))
         self.assertIsNone(rows["drop.mir.html"].line)
@@ -141,10 +141,10 @@ class Index(Command):
 
     def test_text_stays_text(self):
         nasty = '"><script>alert(1)</script>&'
-        row = index_rows.Row(nasty, nasty, 1, 2, 3, 0, 1, "faulty", nasty, nasty, [[3, nasty]], True)
+        row = index_rows.Row(nasty, nasty, 1, 2, 3, 0, 1, "faulty", nasty, nasty, [index_rows.Told(3, nasty)], True)
         self.write("a b%.html", index_rows.row_mark(row).encode())
         self.assertEqual(index_rows.row_in(self.path("a b%.html")), row)
-        made = index.index_page(index_rows.rows_in(self.folder), "{{title}}{{rows}}{{verdict}}", "")
+        made = "".join(index.index_parts(index_rows.rows_in(self.folder))[part] for part in ("title", "rows", "verdict"))
         self.assertNotIn("<script", made)
         self.assertIn('href="./a%20b%25.html"', made)
         self.assertIn("1 loan error<", made)

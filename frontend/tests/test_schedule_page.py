@@ -11,6 +11,7 @@ from nllc_tools.base.sentences import plain
 from nllc_tools.texts import schedule_states
 from nllc_tools.texts.schedule_states import Growth, under_way
 from nllc_tools.views.schedule import event_words, reasons
+from nllc_tools.views.schedule.event_words import Happening
 from nllc_tools.views.schedule.event_part import event_list, event_part
 from nllc_tools.views.schedule.page import page
 from nllc_tools.views.schedule.reasons import Asked, Reading
@@ -23,7 +24,7 @@ LOADED = ["load 0", "owe 0", "clear 0", "load 1", "owe 1", "clear 1"]
 
 
 def sentence(content, number):
-    return plain(event_words.told(content.facts, content.run, number))
+    return plain(Happening(content.facts, content.run, number).told())
 
 
 class Sentences(unittest.TestCase):
@@ -88,17 +89,17 @@ class Reasons(unittest.TestCase):
     def test_walks(self):
         """A growth has the shortest walk inside what was known with lower ranks."""
         content = example_content("each_other")
-        self.assertEqual(content.reasons(0, Growth(2, 1, 4)), [])
-        self.assertEqual(content.reasons(0, Growth(2, 0, 5)), [Asked(0, [0])])
-        self.assertEqual(content.reasons(1, Growth(1, 1, 6)), [Asked(1, [0, 1])])
-        self.assertEqual((content.asking, content.asked_for_taken), ([[13], [18]], [[18], [22]]))
+        self.assertEqual(content.came[0, Growth(2, 1, 4)].asked, [])
+        self.assertEqual(content.came[0, Growth(2, 0, 5)].asked, [Asked(0, [0])])
+        self.assertEqual(content.came[1, Growth(1, 1, 6)].asked, [Asked(1, [0, 1])])
+        self.assertEqual((content.asking, content.asked_for_taken), ({0: [13], 1: [18]}, {0: [18], 1: [22]}))
 
     def test_readings(self):
         def found(name, number):
             content = example_content(name)
             before, after = content.run.states[number - 1:number + 1]
             taken = after.seats[after.event.owner].received[after.event.other][-1]
-            return list(reasons.readings(content.facts, content.run, before, after, after.event.owner, taken))
+            return list(reasons.readings(content.facts, content.run, before, after, taken))
 
         self.assertEqual(found("each_other", 10), [Reading(1, [], [], 0)])
         self.assertEqual(found("each_other", 13), [Reading(0, [0], [0], 1)])
@@ -112,10 +113,10 @@ class Reasons(unittest.TestCase):
                      "constraint 'r 'a 0")
         content = content_of(facts, schedule("load 0", "owe 0", "clear 0", "push 0 1", "load 1"), 1 + 1,
                              b"nll-cut 1\n1\n1\n0\n")
-        self.assertEqual([c for c in content.why.values() if c], [])
+        self.assertEqual([came for came in content.came.values() if came.asked], [])
         facts = facts.replace(b"base 'r 0\nbase 'r 1\n", b"")
         content = content_of(facts, schedule("load 0"), 1)
-        walks = {one.element: asked for (_, one), asked in content.why.items() if one.region == 2}
+        walks = {one.element: came.asked for (_, one), came in content.came.items() if one.region == 2}
         self.assertEqual(walks, {0: [Asked(0, [0])], 1: [Asked(0, [0, 1])], 3: [Asked(0, [0, 1, 3])]})
 
     def test_a_reason_that_is_missing(self):

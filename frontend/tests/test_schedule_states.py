@@ -91,8 +91,8 @@ class Spans(unittest.TestCase):
         self.assertEqual(found, [("a", Span(1, 3)), ("b", Span(2, 4))])
 
     def test_attributes(self):
-        self.assertEqual(spans.attributes(Span(3)), 'data-from="3"')
-        self.assertEqual(spans.attributes(Span(3, 5)), 'data-from="3" data-to="5"')
+        self.assertEqual(Span(3).attributes(), 'data-from="3"')
+        self.assertEqual(Span(3, 5).attributes(), 'data-from="3" data-to="5"')
 
 
 if __name__ == "__main__":

@@ -18,9 +18,8 @@ from nllc_tools.commands import schedule, texts
 from nllc_tools.commands.facts import main as make_facts
 from nllc_tools.judge.content import content_of
 from nllc_tools.judge.names import name_of
-from nllc_tools.views.gallery.cards import Shown, card_part, of_functions, of_text
-from nllc_tools.views.gallery.page import section, whole
-from nllc_tools.views.html.escaping import text
+from nllc_tools.views.gallery import Shown, card_part, of_functions, of_text, section, whole
+from nllc_tools.views.html.writing import text
 from nllc_tools.views.html.page import page
 from nllc_tools.views.schedule.page import page as schedule_page
 

@@ -11,7 +11,7 @@ from nllc_tools.base.refusal import Refusal
 from nllc_tools.base.streams import guarded
 from nllc_tools.commands.inputs import open_page
 from nllc_tools.commands.texts import content_of, parser_of_texts, read
-from nllc_tools.views.html.folder import write_index
+from nllc_tools.views.html.index import write_index
 from nllc_tools.views.html.index_rows import NAME
 from nllc_tools.views.html.page import page
 

@@ -143,7 +143,7 @@ def tell_pages(asked: AskedInFull, folder: str, pages: list[str]) -> None:
     """Writes the index of the pages, and says where it is; without a page none."""
     if not pages:
         return
-    from nllc_tools.views.html.folder import write_index
+    from nllc_tools.views.html.index import write_index
     index = write_index(folder, [os.path.basename(page) for page in pages] if not asked.functions else None)
     print(f"pages: {index}")
     if asked.open:

@@ -89,7 +89,7 @@ def content_of(asked: argparse.Namespace) -> Content:
     look_small_problem(asked.facts, told)
     states = read_run(rest, len(told.names), told.points + told.universals)
     try:
-        return Content(told, states, (asked.facts, asked.schedule), printed.program, printed.standing)
+        return Content(told, states, asked.facts, asked.schedule, printed.program, printed.standing)
     except Broken as wrong:
         raise Refusal(f"the states of {printed.program} don't follow from {asked.facts}: {wrong}", 3) from None
 

@@ -16,7 +16,7 @@ from nllc_tools.texts.facts.reader import is_facts_text
 from nllc_tools.texts.mir.problem import is_mir_text, problem_in
 from nllc_tools.texts.mir.remarks import remarks_of
 from nllc_tools.texts.source import Source
-from nllc_tools.views.html.standings import STANDINGS
+from nllc_tools.views.html.writing import STANDINGS
 
 
 class Text(NamedTuple):

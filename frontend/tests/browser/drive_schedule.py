@@ -78,8 +78,8 @@ class Drive:
         return self.texts(f"{place} .growth:not(.gone) code")
 
     def named(self, growths):
-        from nllc_tools.views.schedule.event_words import growth_name
-        return [growth_name(self.content.facts, one) for one in growths]
+        from nllc_tools.views.schedule.event_words import growth
+        return [growth(self.content.facts, one) for one in growths]
 
     def look(self, number):
         """The page shows this state."""

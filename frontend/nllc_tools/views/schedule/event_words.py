@@ -1,174 +1,159 @@
 """Events in sentences. A sentence is a list of strings; those that are `Code` are shown as code."""
 
+from dataclasses import dataclass
+from typing import Iterable, Optional
+
 from nllc_tools.base.sentences import Code, joined, plural
+from nllc_tools.model.facts import Facts
 from nllc_tools.model.region_names import tick
+from nllc_tools.texts.schedule_states import Event, Growth, Run, Seat, State
 
 
-def element_name(facts, element):
+def element_name(facts: Facts, element: int) -> str:
     if element < facts.points:
         return facts.point_name(element)
     return f"end('{facts.names[element - facts.points]})"
 
 
-def growth_name(facts, growth):
-    return f"'{facts.names[growth.region]} gets {element_name(facts, growth.element)}"
+def elements_name(facts: Facts, elements: Iterable[int], between: str = " ") -> Code:
+    return Code(between.join(element_name(facts, element) for element in elements))
 
 
-def growth(facts, one):
-    return Code(growth_name(facts, one))
+def walk_name(facts: Facts, walk: Iterable[int]) -> Code:
+    return elements_name(facts, walk, " → ")
 
 
-def constraint_name(facts, number):
+def growth(facts: Facts, one: Growth) -> Code:
+    return Code(f"'{facts.names[one.region]} gets {element_name(facts, one.element)}")
+
+
+def constraint_name(facts: Facts, number: int) -> str:
     sup, sub, at = facts.constraints[number]
     return f"('{facts.names[sup]}: '{facts.names[sub]}) @ {facts.place_name(at)}"
 
 
-def words_of(event):
+def words_of(event: Event) -> str:
     numbers = [event.owner] if event.other < 0 else [event.owner, event.other]
     return " ".join([event.word, *map(str, numbers)])
 
 
-def told(facts, run, number):
-    """What event `number` did, or why it did nothing."""
-    before, after = run.states[number - 1], run.states[number]
-    event = after.event
-    if after.answer == "not now":
-        return [*why_not(facts, run, number), " Nothing changes."]
-    telling = {"load": told_load, "take": told_take, "owe": told_owe, "clear": told_clear,
-               "push": told_push, "leave": told_leave}[event.word]
-    return telling(facts, run, number, before, after)
-
-
-def told_load(facts, _run, _number, before, after):
-    owner = after.event.owner
-    return [f"Owner {owner} loads: it enters the base elements of its regions, and grows until nothing is "
-            "left to do. ", *told_turn(facts, owner, before, after)]
-
-
-def told_take(facts, _run, _number, before, after):
-    owner, sender = after.event.owner, after.event.other
-    taken = before.seats[sender].lane(owner, "box")[0]
-    return [f"Owner {owner} takes ", growth(facts, taken), f" out of the box from owner {sender}, enters "
-            "it into its copy of ", tick(facts, taken.region),
-            ", and grows until nothing is left to do. ", *told_turn(facts, owner, before, after)]
-
-
-def told_turn(facts, owner, before, after):
-    """How an owner grew in a turn, and how much of it is for others."""
-    grown = len(after.seats[owner].log) - len(before.seats[owner].log)
-    if not grown:
-        return ["None of its regions grows."]
-    times = {1: "once", 2: "twice"}.get(grown, f"{grown} times")
-    for_others = fresh_count(after.seats[owner])
-    if not for_others:
-        return [f"It grows {times}, and no other owner reads that."]
-    isnt = "message for another owner isn’t" if for_others == 1 else "messages for other owners aren’t"
-    return [f"It grows {times}; {for_others} {isnt} owed for yet."]
-
-
-def fresh_count(seat):
-    return sum(len(growths) for (_, part), growths in seat.lanes.items() if part == "fresh")
-
-
-def told_owe(_facts, _run, _number, before, after):
-    owner, count = after.event.owner, after.balance - before.balance
-    if not count:
-        return [f"Owner {owner} owes for nothing, since this turn has no message for another owner. The "
-                f"balance stays at {after.balance}."]
-    return [f"Owner {owner} owes for {plural(count, 'message')}: the balance rises from {before.balance} to "
-            f"{after.balance}. From now on it may send {'it' if count == 1 else 'them'}."]
-
-
-def told_clear(_facts, run, number, before, after):
-    owner = after.event.owner
-    return [f"Owner {owner} clears {item(run, number, owner)}: the balance falls from {before.balance} to "
-            f"{after.balance}."]
-
-
-def item(run, number, owner):
-    """What an owner works on before an event: its load, or what it took last."""
-    turns = [state.event.word for state in run.states[1:number]
-             if state.answer == "done" and state.event.owner == owner
-             and state.event.word in ("load", "take")]
-    return "its load" if turns[-1:] == ["load"] else "the growth that it took"
-
-
-def told_push(facts, _run, _number, before, after):
-    owner, reader = after.event.owner, after.event.other
-    pushed = before.seats[owner].lane(reader, "out")[0]
-    return [f"Owner {owner} puts ", growth(facts, pushed), f" into the box for owner {reader}. It counts "
-            f"there as it did before, so the balance stays at {after.balance}."]
-
-
-def told_leave(_facts, _run, _number, _before, after):
-    owner = after.event.owner
-    if after.answer == "quiet":
-        return [f"The balance is 0, so nothing is under way: owner {owner} leaves."]
-    return [f"Owner {owner} has nothing to do. But the balance is {after.balance}: something is under way, "
-            "which may still lead to a growth for this owner. So it stays, and nothing changes."]
-
-
-def way_words(facts, kind, owner, reader, one):
+def way_words(facts: Facts, kind: str, owner: int, reader: Optional[int], one: Optional[Growth]) -> list[str]:
     """One thing that counts in the balance."""
-    if kind == "load":
-        return [f"the load of owner {owner}"]
-    if kind == "item":
-        return [f"what owner {owner} works on"]
+    if one is None:
+        return [f"the load of owner {owner}" if kind == "load" else f"what owner {owner} works on"]
     place = f"which owner {owner} still has to send to owner {reader}" if kind == "out" else \
         f"in the box from owner {owner} to owner {reader}"
     return [growth(facts, one), f", {place}"]
 
 
-# Why an event isn't possible
+@dataclass(frozen=True)
+class Happening:
+    """What an event did, or why it did nothing."""
 
-def why_not(facts, run, number):
-    before, event = run.states[number - 1], run.states[number].event
-    seat, owner = before.seats[event.owner], event.owner
-    if event.owner == event.other:
-        return [f"Owner {owner} has no mailbox to itself."]
-    if event.word == "load":
-        return [f"Owner {owner} is loaded already."]
-    if event.word == "owe":
-        return why_not_owe(seat, owner)
-    if event.word == "clear":
-        return [f"Owner {owner} has to owe for this turn’s messages first."] if seat.item == "fresh" else \
-            [f"Owner {owner} works on nothing that it could clear."]
-    if event.word == "push":
-        return [f"Nothing that owner {owner} owes for waits to be sent to owner {event.other}."]
-    return why_not_free(facts, run, number, seat) or why_not_more(facts, before, event)
+    facts: Facts
+    run: Run
+    number: int
 
+    @property
+    def before(self) -> State:
+        return self.run.states[self.number - 1]
 
-def why_not_owe(seat, owner):
-    if seat.item == "owed":
-        return [f"Owner {owner} has owed for this turn already."]
-    return [f"Owner {owner} works on nothing that it could owe for."]
+    @property
+    def after(self) -> State:
+        return self.run.states[self.number]
 
+    @property
+    def event(self) -> Event:
+        return self.after.event
 
-def why_not_free(_facts, run, number, seat):
-    """Why an owner can neither take nor leave, if it is for what it works on."""
-    owner = run.states[number].event.owner
-    if not seat.loaded:
-        return [f"Owner {owner} isn’t loaded yet."]
-    if seat.left:
-        return [f"Owner {owner} has left."]
-    if seat.item != "nothing":
-        return [f"Owner {owner} hasn’t cleared {item(run, number, owner)}."]
-    return None
+    @property
+    def owner(self) -> str:
+        return f"Owner {self.event.owner}"
 
+    @property
+    def seat(self) -> Seat:
+        """The owner's, before the event."""
+        return self.before.seats[self.event.owner]
 
-def why_not_more(facts, before, event):
-    if event.word == "take":
-        return [f"The box from owner {event.other} to owner {event.owner} is empty."]
-    waiting = before.seats[event.owner].waiting()
-    return [f"Owner {event.owner} still has to send ",
-            *joined([[growth(facts, one), f" to owner {reader}"] for reader, one in waiting]), "."]
+    def told(self) -> list[str]:
+        if self.after.answer == "not now":
+            return [*self.why_not(), " Nothing changes."]
+        return {"load": self.load, "take": self.take, "owe": self.owe, "clear": self.clear, "push": self.push,
+                "leave": self.leave}[self.event.word]()
 
+    def load(self) -> list[str]:
+        return [f"{self.owner} loads: it enters the base elements of its regions, and grows until nothing is left to do. ",
+                self.turn()]
 
-# Reasons
+    def take(self) -> list[str]:
+        taken = self.before.seats[self.event.other].lane(self.event.owner, "box")[0]
+        return [f"{self.owner} takes ", growth(self.facts, taken), f" out of the box from owner {self.event.other}, enters "
+                "it into its copy of ", tick(self.facts, taken.region), ", and grows until nothing is left to do. ", self.turn()]
 
-def walk_name(facts, walk):
-    return " → ".join(element_name(facts, element) for element in walk)
+    def turn(self) -> str:
+        """How the owner grew in a turn, and how much of it is for others."""
+        seat = self.after.seats[self.event.owner]
+        grown = len(seat.log) - len(self.seat.log)
+        if not grown:
+            return "None of its regions grows."
+        times = {1: "once", 2: "twice"}.get(grown, f"{grown} times")
+        for_others = sum(len(growths) for (_, part), growths in seat.lanes.items() if part == "fresh")
+        if not for_others:
+            return f"It grows {times}, and no other owner reads that."
+        isnt = "message for another owner isn’t" if for_others == 1 else "messages for other owners aren’t"
+        return f"It grows {times}; {for_others} {isnt} owed for yet."
 
+    def owe(self) -> list[str]:
+        count = self.after.balance - self.before.balance
+        if not count:
+            return [f"{self.owner} owes for nothing, since this turn has no message for another owner. The "
+                    f"balance stays at {self.after.balance}."]
+        return [f"{self.owner} owes for {plural(count, 'message')}: the balance rises from {self.before.balance} to "
+                f"{self.after.balance}. From now on it may send {'it' if count == 1 else 'them'}."]
 
-def elements_name(facts, elements):
-    return " ".join(element_name(facts, element) for element in elements)
+    def clear(self) -> list[str]:
+        return [f"{self.owner} clears {self.item()}: the balance falls from {self.before.balance} to {self.after.balance}."]
+
+    def item(self) -> str:
+        """What the owner works on before the event: its load, or what it took last."""
+        turns = [state.event.word for state in self.run.states[1:self.number] if state.answer == "done"
+                 and state.event.owner == self.event.owner and state.event.word in ("load", "take")]
+        return "its load" if turns[-1:] == ["load"] else "the growth that it took"
+
+    def push(self) -> list[str]:
+        pushed = self.seat.lane(self.event.other, "out")[0]
+        return [f"{self.owner} puts ", growth(self.facts, pushed), f" into the box for owner {self.event.other}. It counts "
+                f"there as it did before, so the balance stays at {self.after.balance}."]
+
+    def leave(self) -> list[str]:
+        if self.after.answer == "quiet":
+            return [f"The balance is 0, so nothing is under way: owner {self.event.owner} leaves."]
+        return [f"{self.owner} has nothing to do. But the balance is {self.after.balance}: something is under way, "
+                "which may still lead to a growth for this owner. So it stays, and nothing changes."]
+
+    def why_not(self) -> list[str]:
+        """Why the event isn't possible."""
+        if self.event.owner == self.event.other:
+            return [f"{self.owner} has no mailbox to itself."]
+        said = {
+            "load": f"{self.owner} is loaded already.",
+            "owe": f"{self.owner} has owed for this turn already." if self.seat.item == "owed" else
+                   f"{self.owner} works on nothing that it could owe for.",
+            "clear": f"{self.owner} has to owe for this turn’s messages first." if self.seat.item == "fresh" else
+                     f"{self.owner} works on nothing that it could clear.",
+            "push": f"Nothing that owner {self.event.owner} owes for waits to be sent to owner {self.event.other}.",
+        }.get(self.event.word) or self.why_not_free()
+        if said:
+            return [said]
+        if self.event.word == "take":
+            return [f"The box from owner {self.event.other} to owner {self.event.owner} is empty."]
+        waiting = [[growth(self.facts, one), f" to owner {reader}"] for reader, one in self.seat.waiting()]
+        return [f"{self.owner} still has to send ", *joined(waiting), "."]
+
+    def why_not_free(self) -> str:
+        """Why the owner can neither take nor leave, if it is for what it works on."""
+        if not self.seat.loaded:
+            return f"{self.owner} isn’t loaded yet."
+        if self.seat.left:
+            return f"{self.owner} has left."
+        return f"{self.owner} hasn’t cleared {self.item()}." if self.seat.item != "nothing" else ""

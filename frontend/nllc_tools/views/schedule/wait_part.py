@@ -1,10 +1,14 @@
 """A drawing of who waits for whom: owners in a ring, messages on their way, and what idle owners wait for."""
 
 from math import cos, pi, sin
+from typing import Iterator, Sequence
 
 from nllc_tools.base.sentences import plural
-from nllc_tools.views.html.escaping import text
-from nllc_tools.views.schedule.spans import attributes, values
+from nllc_tools.texts.schedule_states import State
+from nllc_tools.views.html.graph.layout import Spot
+from nllc_tools.views.html.writing import text
+from nllc_tools.views.schedule.content import Content
+from nllc_tools.views.schedule.spans import values
 
 MOST_OWNERS = 16    # of more owners nobody sees anything
 NODE = 19           # the radius of an owner
@@ -17,117 +21,106 @@ STANDINGS = {
 }
 
 
-def wait_part(content):
+def wait_part(content: Content) -> str:
     """The drawing; a sentence where there are too many owners for it."""
-    owners = content.run.owners
-    if owners > MOST_OWNERS:
-        return f'<p class="none">{plural(owners, "owner")}, too many for a picture.</p>'
-    ring = RING + 9 * max(0, owners - 3)
-    places = [place(number, owners, ring) for number in range(owners)]
+    owners = range(content.run.owners)
+    if len(owners) > MOST_OWNERS:
+        return f'<p class="none">{plural(len(owners), "owner")}, too many for a picture.</p>'
+    ring = RING + 9 * max(0, len(owners) - 3)
+    places = [place(number, len(owners), ring) for number in owners]
     half = ring + NODE + 16
-    low = half if owners > 2 else NODE + 34
-    parts = [f'<svg class="waits" viewBox="{-half} {-low} {2 * half} {2 * low}" role="img" '
-             f'aria-label="who waits for whom">']
-    for sender in range(owners):
-        for reader in range(owners):
+    low = half if len(owners) > 2 else NODE + 34
+    parts = [f'<svg class="waits" viewBox="{-half} {-low} {2 * half} {2 * low}" role="img" aria-label="who waits for whom">']
+    for sender in owners:
+        for reader in owners:
             if content.tells(sender, reader):
                 parts += messages(content, sender, reader, places)
                 parts += waits(content, reader, sender, places)
-    for owner in range(owners):
-        parts += node(content, owner, places[owner])
-    return "".join(parts) + "</svg>" + wait_words(content)
+    for owner in owners:
+        parts += nodes(content, owner, places[owner])
+    said = values(content.run.states, lambda state: said_of(content, state))
+    return "".join([*parts, "</svg>", *(f"<p {span.attributes()}>{text(words)}</p>" for words, span in said)])
 
 
-def wait_words(content):
-    """The same in words, one sentence for each run of states."""
-    return "".join(f"<p {attributes(span)}>{text(said)}</p>"
-                   for said, span in values(content.run.states, lambda state: said_of(content, state)))
-
-
-def said_of(content, state):
+def said_of(content: Content, state: State) -> str:
     """Which owners wait, and for which."""
     owners = range(content.run.owners)
     said = [f"owner {reader} waits for " + " and ".join(f"owner {one}" for one in senders)
-            for reader in owners if is_waiting(content, state, reader)
+            for reader in owners if is_waiting(state, reader)
             and (senders := [one for one in owners if content.tells(one, reader)])]
     return f"{'; '.join(said) or 'nobody waits'}.".capitalize()
 
 
-def is_waiting(content, state, reader):
-    return state.balance > 0 and standing(content, state, reader) == "waiting"
+def is_waiting(state: State, reader: int) -> bool:
+    return state.balance > 0 and standing(state, reader) == "waiting"
 
 
-def place(number, owners, ring):
-    """Where an owner stands: two side by side, more from the top on in a ring."""
-    angle = pi * (1 - number) if owners == 2 else 2 * pi * number / owners - pi / 2
-    return ring * cos(angle), ring * sin(angle)
-
-
-def standing(content, state, owner):
+def standing(state: State, owner: int) -> str:
     """What an owner is at: it waits where it has nothing in hand, to send or to take, and hasn't left."""
     seat = state.seats[owner]
-    if not seat.loaded:
-        return "new"
-    if seat.left:
-        return "left"
+    if not seat.loaded or seat.left:
+        return "left" if seat.loaded else "new"
     if seat.item != "nothing":
         return "busy"
-    is_ready = seat.waiting() or any(state.seats[other].lane(owner, "box") for other in range(content.run.owners))
+    is_ready = seat.waiting() or any(other.lane(owner, "box") for other in state.seats)
     return "ready" if is_ready else "waiting"
 
 
-def node(content, owner, where):
-    x, y = where
-    for kind, span in values(content.run.states, lambda state: standing(content, state, owner)):
-        yield (f'<g class="owner-node {kind}" {attributes(span)}><title>owner {owner} {text(STANDINGS[kind])}</title>'
-               f'<circle cx="{x:.1f}" cy="{y:.1f}" r="{NODE}"/>'
-               f'<text x="{x:.1f}" y="{y + 5:.1f}">{owner}</text></g>')
+def nodes(content: Content, owner: int, at: Spot) -> Iterator[str]:
+    for kind, span in values(content.run.states, lambda state: standing(state, owner)):
+        yield (f'<g class="owner-node {kind}" {span.attributes()}><title>owner {owner} {STANDINGS[kind]}</title>'
+               f'<circle cx="{at.x:.1f}" cy="{at.y:.1f}" r="{NODE}"/>'
+               f'<text x="{at.x:.1f}" y="{at.y + 5:.1f}">{owner}</text></g>')
 
 
-def messages(content, sender, reader, places):
+def messages(content: Content, sender: int, reader: int, places: Sequence[Spot]) -> Iterator[str]:
     """An arrow with the number of messages on their way, while there are any."""
-    def count_of(state):
+    def count_of(state: State) -> int:
         return sum(len(state.seats[sender].lane(reader, part)) for part in ("fresh", "out", "box"))
 
     for count, span in values(content.run.states, count_of):
         if count:
-            yield (f'<g class="message" {attributes(span)}>'
+            yield (f'<g class="message" {span.attributes()}>'
                    f"<title>{plural(count, 'message')} from owner {sender} to owner {reader}</title>"
                    f"{arrow(places[sender], places[reader], str(count))}</g>")
 
 
-def waits(content, reader, sender, places):
+def waits(content: Content, reader: int, sender: int, places: Sequence[Spot]) -> Iterator[str]:
     """A dashed arrow from an owner that waits to one that may still tell it something."""
-    for waiting, span in values(content.run.states, lambda state: is_waiting(content, state, reader)):
-        if waiting:
-            yield (f'<g class="wait" {attributes(span)}><title>owner {reader} waits for owner {sender}</title>'
+    for is_so, span in values(content.run.states, lambda state: is_waiting(state, reader)):
+        if is_so:
+            yield (f'<g class="wait" {span.attributes()}><title>owner {reader} waits for owner {sender}</title>'
                    f"{arrow(places[reader], places[sender])}</g>")
 
 
-def arrow(begin, end, label=""):
+# Geometry
+
+def place(number: int, owners: int, ring: int) -> Spot:
+    """Where an owner stands: two side by side, more from the top on in a ring."""
+    angle = pi * (1 - number) if owners == 2 else 2 * pi * number / owners - pi / 2
+    return Spot(ring * cos(angle), ring * sin(angle))
+
+
+def arrow(begin: Spot, end: Spot, label: str = "") -> str:
     """A line that bends to its left, so that the one back is another one; at its middle the label."""
-    (ax, ay), (bx, by) = begin, end
-    across, down = bx - ax, by - ay
-    mx, my = (ax + bx) / 2 + BEND * down, (ay + by) / 2 - BEND * across
-    from_x, from_y = towards(ax, ay, mx, my, NODE + 2)
-    to_x, to_y = towards(bx, by, mx, my, NODE + 4)
-    tip = head(mx, my, to_x, to_y)
-    middle_x, middle_y = (from_x + 2 * mx + to_x) / 4, (from_y + 2 * my + to_y) / 4
-    words = f'<circle class="count" cx="{middle_x:.1f}" cy="{middle_y:.1f}" r="9"/>' \
-            f'<text x="{middle_x:.1f}" y="{middle_y + 4:.1f}">{label}</text>' if label else ""
-    return (f'<path class="way" d="M{from_x:.1f} {from_y:.1f}Q{mx:.1f} {my:.1f} {to_x:.1f} {to_y:.1f}"/>'
-            f'<path class="tip" d="{tip}"/>{words}')
+    mid = Spot((begin.x + end.x) / 2 + BEND * (end.y - begin.y), (begin.y + end.y) / 2 - BEND * (end.x - begin.x))
+    begin, end = towards(begin, mid, NODE + 2), towards(end, mid, NODE + 4)
+    x, y = (begin.x + 2 * mid.x + end.x) / 4, (begin.y + 2 * mid.y + end.y) / 4
+    words = f'<circle class="count" cx="{x:.1f}" cy="{y:.1f}" r="9"/><text x="{x:.1f}" y="{y + 4:.1f}">{label}</text>' \
+        if label else ""
+    return (f'<path class="way" d="M{begin.x:.1f} {begin.y:.1f}Q{mid.x:.1f} {mid.y:.1f} {end.x:.1f} {end.y:.1f}"/>'
+            f'<path class="tip" d="{tip(mid, end)}"/>{words}')
 
 
-def towards(x, y, to_x, to_y, far):
+def towards(begin: Spot, end: Spot, far: float) -> Spot:
     """The point so far from the first one on the way to the second."""
-    length = ((to_x - x) ** 2 + (to_y - y) ** 2) ** 0.5
-    return x + (to_x - x) * far / length, y + (to_y - y) * far / length
+    length = ((end.x - begin.x) ** 2 + (end.y - begin.y) ** 2) ** 0.5
+    return Spot(begin.x + (end.x - begin.x) * far / length, begin.y + (end.y - begin.y) * far / length)
 
 
-def head(from_x, from_y, x, y):
+def tip(begin: Spot, end: Spot) -> str:
     """The head of an arrow that comes from the first point to the second."""
-    length = ((x - from_x) ** 2 + (y - from_y) ** 2) ** 0.5
-    along_x, along_y = (x - from_x) / length * 8, (y - from_y) / length * 8
-    return (f"M{x:.1f} {y:.1f}L{x - along_x - along_y / 2:.1f} {y - along_y + along_x / 2:.1f}"
-            f"L{x - along_x + along_y / 2:.1f} {y - along_y - along_x / 2:.1f}z")
+    length = ((end.x - begin.x) ** 2 + (end.y - begin.y) ** 2) ** 0.5
+    x, y = (end.x - begin.x) / length * 8, (end.y - begin.y) / length * 8
+    return (f"M{end.x:.1f} {end.y:.1f}L{end.x - x - y / 2:.1f} {end.y - y + x / 2:.1f}"
+            f"L{end.x - x + y / 2:.1f} {end.y - y - x / 2:.1f}z")

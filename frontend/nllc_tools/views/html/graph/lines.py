@@ -1,83 +1,80 @@
 """Straight lines of points, and the rows in which a page shows them."""
 
 import re
-from typing import NamedTuple
+from typing import Iterable, NamedTuple, Sequence, Union
+
+from nllc_tools.model.facts import Facts
 
 # Statements of MIR that do nothing to a reference.
 MARK = re.compile(r"(?:StorageLive|StorageDead|FakeRead|PlaceMention|nop|Coverage)\b")
 MOST_IN_ROW = 4
+MOST_BLOCKS = 3     # of a title; of more blocks it names the first and the last
+
+Line = list[int]    # of points
 
 
 class Row(NamedTuple):
     """Points of one statement, one after the other, and its words."""
 
-    points: list
+    points: list[int]
     text: str
 
 
-def straight_lines(successors):
-    """All points in lines: inside a line each point has one successor, and that one no other
-    predecessor.
+class Title(NamedTuple):
+    """The blocks of a line, and its points."""
+
+    blocks: str
+    points: str
+
+
+def straight_lines(successors: Sequence[Sequence[int]]) -> list[Line]:
+    """All points in lines: inside a line each point has one successor, and that one no other predecessor.
 
     The lines stand in the order of their first points; the first one begins at point 0.
     """
-    predecessors = turned(successors)
-    left = [True] * len(successors)
+    begins = [point == 0 or len(before) != 1 or len(successors[before[0]]) != 1 or before == [point]
+              for point, before in enumerate(turned(successors))]
+    left = set(range(len(successors)))
     lines = []
-    for point in range(len(successors)):
-        if begins(successors, predecessors, point):
-            lines.append(line_from(successors, predecessors, point, left))
-    for point in range(len(successors)):
-        if left[point]:  # on a circle without a way in
-            lines.append(line_from(successors, predecessors, point, left))
+    for point in sorted(left, key=lambda point: not begins[point]):     # one that begins none is on a circle without a way in
+        line = []
+        while point in left:
+            left.remove(point)
+            line.append(point)
+            after = successors[point]
+            if len(after) == 1 and not begins[after[0]]:
+                point = after[0]
+        lines += [line] if line else []
     return sorted(lines)
 
 
-def turned(successors):
+def turned(successors: Sequence[Iterable[int]]) -> list[list[int]]:
     """For each point those before it."""
-    predecessors = [[] for _ in successors]
+    predecessors: list[list[int]] = [[] for _ in successors]
     for point, following in enumerate(successors):
         for other in following:
             predecessors[other].append(point)
     return predecessors
 
 
-def begins(successors, predecessors, point):
-    before = predecessors[point]
-    return point == 0 or len(before) != 1 or len(successors[before[0]]) != 1 or before == [point]
-
-
-def line_from(successors, predecessors, point, left):
-    line = []
-    while left[point]:
-        left[point] = False
-        line.append(point)
-        after = successors[point]
-        if len(after) != 1 or begins(successors, predecessors, after[0]):
-            break
-        point = after[0]
-    return line
-
-
-def rows(facts, line):
+def rows(facts: Facts, line: Iterable[int]) -> list[Row]:
     """The line's points by statement.
 
     The two points that rustc has for each statement share a row; so do the statements that only
     mark storage and the like, where several of one line of the source follow each other.
     """
-    found = []
+    found: list[list[int]] = []
     last = None
     for point in line:
         kind = row_kind(facts, point)
-        if kind is not None and kind == last and len(found[-1].points) < MOST_IN_ROW:
-            found[-1].points.append(point)
-        else:
-            found.append(Row([point], words_of(facts, point)))
+        if kind is None or kind != last or len(found[-1]) == MOST_IN_ROW:
+            found.append([])
+        found[-1].append(point)
         last = kind
-    return [Row(row.points, several(facts, row)) for row in found]
+    return [Row(points, words_of_all(facts, points)) for points in found]
 
 
-def row_kind(facts, point):
+def row_kind(facts: Facts, point: int) -> Union[int, tuple[str, str], None]:
     """What points of one row have in common, or None for a point that has a row of its own."""
     remark = facts.remarks.point(point)
     spot = remark.spot()
@@ -86,36 +83,29 @@ def row_kind(facts, point):
     return spot[:2] if spot and spot[2] else None
 
 
-def several(facts, row):
-    """The row's words: of several marks all of them."""
-    statements = [words_of(facts, point) for point in row.points]
-    return row.text if len(set(statements)) == 1 else ", ".join(statements)
+def words_of_all(facts: Facts, points: list[int]) -> str:
+    """The statements of a row, of two points of one statement that one."""
+    statements = [words_of(facts, point) for point in points]
+    return ", ".join(statements if len(set(statements)) > 1 else statements[:1])
 
 
-def words_of(facts, point):
+def words_of(facts: Facts, point: int) -> str:
     """The point's statement; where no remark says it, what the facts say there."""
     return facts.remarks.point(point).statement() or ("return" if point in facts.returns else "")
 
 
-MOST_BLOCKS = 3     # of a title; of more blocks it names the first and the last
-
-
-def title(facts, line):
+def title(facts: Facts, line: Line) -> Title:
     """The blocks of a line, where remarks say them, and its points; where their names have the block, the blocks alone."""
-    found = list(dict.fromkeys(filter(None, (block_of(facts, point) for point in line))))
+    found = list(dict.fromkeys(block for point in line if (block := block_of(facts, point))))
     blocks = ", ".join(found) if len(found) <= MOST_BLOCKS else f"{found[0]} … {found[-1]}"
     if blocks and facts.point_names:
-        return blocks, ""
-    first, last = facts.point_name(line[0]), facts.point_name(line[-1])
-    between = "–" if is_run(line) else " … "
-    return blocks, first if len(line) == 1 else f"{first}{between}{last}"
+        return Title(blocks, "")
+    is_run = all(b == a + 1 for a, b in zip(line, line[1:]))
+    ends = dict.fromkeys((facts.point_name(line[0]), facts.point_name(line[-1])))
+    return Title(blocks, ("–" if is_run else " … ").join(ends))
 
 
-def block_of(facts, point):
+def block_of(facts: Facts, point: int) -> str:
     """The block of a point, where a remark says it; else nothing."""
     spot = facts.remarks.point(point).spot()
     return spot[0] if spot else ""
-
-
-def is_run(line):
-    return all(b == a + 1 for a, b in zip(line, line[1:]))

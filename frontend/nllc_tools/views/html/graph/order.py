@@ -1,82 +1,105 @@
-"""In which order the boxes of a layer stand."""
+"""In which order the boxes of a layer stand; and walks in depth."""
+
+from bisect import bisect_right
+from typing import Callable, Iterable, NamedTuple, Sequence
 
 ORDER_SWEEPS = 10
 
+Edge = tuple[int, int]
+Table = Sequence[Sequence[int]]     # for each number those that stand beside it
 
-def neighbours(paths, count):
+
+class Walk(NamedTuple):
+    """A walk in depth: the numbers in the order in which it comes to them, and in which it leaves them; the edges by
+    which it comes to a number that it hasn't left.
+    """
+
+    came: list[int]
+    left: list[int]
+    back: set[Edge]
+
+
+def walk_in_depth(roots: Iterable[int], after: Callable[[int], Iterable[int]]) -> Walk:
+    is_left: dict[int, bool] = {}
+    left, back = [], set()
+    for root in roots:
+        way = [] if root in is_left else [(root, iter(after(root)))]
+        is_left.setdefault(root, False)
+        while way:
+            number, rest = way[-1]
+            following = next(rest, None)
+            if following is None:
+                is_left[number] = True
+                left.append(number)
+                way.pop()
+            elif following not in is_left:
+                is_left[following] = False
+                way.append((following, iter(after(following))))
+            elif not is_left[following]:
+                back.add((number, following))
+    return Walk(list(is_left), left, back)
+
+
+def neighbours(paths: Iterable[Sequence[int]], count: int) -> tuple[Table, Table]:
     """For each number those above it and those below it along the edges."""
-    above, below = [[] for _ in range(count)], [[] for _ in range(count)]
-    for path in paths.values():
+    above: list[list[int]] = [[] for _ in range(count)]
+    below: list[list[int]] = [[] for _ in range(count)]
+    for path in paths:
         for a, b in zip(path, path[1:]):
             below[a].append(b)
             above[b].append(a)
     return above, below
 
 
-def ordered(layers, paths, count):
+def ordered(layers: Table, paths: Iterable[Sequence[int]], count: int) -> list[list[int]]:
     """The layers in orders with few crossings: the best that some sweeps come by."""
     above, below = neighbours(paths, count)
-    layers = by_first_visit(layers, below, count)
-    best, fewest = [list(layer) for layer in layers], crossings(layers, below, count)
+    best = found = by_first_visit(layers, below)
+    fewest = crossings(best, below)
     for sweep in range(ORDER_SWEEPS):
         if not fewest:
             break
-        sweep_once(layers, above if sweep % 2 == 0 else below, sweep % 2 == 1)
-        now = crossings(layers, below, count)
+        found = swept(found, below, True) if sweep % 2 else swept(found, above)
+        now = crossings(found, below)
         if now < fewest:
-            best, fewest = [list(layer) for layer in layers], now
+            best, fewest = found, now
     return best
 
 
-def by_first_visit(layers, below, count):
+def by_first_visit(layers: Table, below: Table) -> list[list[int]]:
     """The layers in the order in which a walk in depth comes to their members."""
-    visit = {}
-    for root in [number for layer in layers for number in layer]:
-        todo = [root]
-        while todo:
-            number = todo.pop()
-            if number not in visit:
-                visit[number] = len(visit)
-                todo.extend(reversed(below[number]))
-    return [sorted(layer, key=visit.get) for layer in layers]
+    came = walk_in_depth([number for layer in layers for number in layer], below.__getitem__).came
+    visit = {number: at for at, number in enumerate(came)}
+    return [sorted(layer, key=visit.__getitem__) for layer in layers]
 
 
-def sweep_once(layers, towards, upwards):
-    """Sorts each layer by the average place of its members' neighbours in the layer just passed."""
+def swept(layers: Table, towards: Table, is_upwards: bool = False) -> list[list[int]]:
+    """Each layer sorted by the average place of its members' neighbours in the layer just passed."""
     place = {number: at for layer in layers for at, number in enumerate(layer)}
-    for layer in reversed(layers) if upwards else layers:
-        wish = {number: average([place[n] for n in towards[number]], place[number])
+    found = []
+    for layer in reversed(layers) if is_upwards else layers:
+        wish = {number: sum(place[n] for n in near) / len(near) if (near := towards[number]) else place[number]
                 for number in layer}
-        layer.sort(key=wish.get)
-        place.update((number, at) for at, number in enumerate(layer))
+        found.append(sorted(layer, key=wish.__getitem__))
+        place.update((number, at) for at, number in enumerate(found[-1]))
+    return found[::-1] if is_upwards else found
 
 
-def average(numbers, otherwise):
-    return sum(numbers) / len(numbers) if numbers else otherwise
-
-
-def crossings(layers, below, count):
+def crossings(layers: Table, below: Table) -> int:
     """How many pairs of edges cross between neighbouring layers."""
     total = 0
     for upper, lower in zip(layers, layers[1:]):
         place = {number: at for at, number in enumerate(lower)}
-        ends = [at for number in upper for at in sorted(place[b] for b in below[number])]
-        total += inversions(ends, len(lower))
+        total += inversions([at for number in upper for at in sorted(place[b] for b in below[number])])
     return total
 
 
-def inversions(numbers, size):
-    """The pairs of numbers that stand in the wrong order, counted with a tree of sums."""
-    tree = [0] * (size + 1)
+def inversions(numbers: Iterable[int]) -> int:
+    """The pairs of numbers that stand in the wrong order."""
     total = 0
-    for seen, number in enumerate(numbers):
-        at, smaller = number + 1, 0
-        while at:
-            smaller += tree[at]
-            at &= at - 1
-        total += seen - smaller
-        at = number + 1
-        while at <= size:
-            tree[at] += 1
-            at += at & -at
+    seen: list[int] = []
+    for number in numbers:
+        at = bisect_right(seen, number)
+        total += len(seen) - at
+        seen.insert(at, number)
     return total

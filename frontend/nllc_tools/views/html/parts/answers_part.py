@@ -1,11 +1,15 @@
 """Two answers side by side: each constraint from its point on, and each of them at all points."""
 
-from nllc_tools.base import sentences
+from typing import Sequence
+
+from nllc_tools.base.sentences import plural
+from nllc_tools.judge.content import Content
+from nllc_tools.judge.findings.finding import Finding
 from nllc_tools.judge.two_answers import alone, counted, differing
-from nllc_tools.views.html.escaping import sentence, text
+from nllc_tools.views.html.writing import sentence, text
 
 
-def both(content):
+def both(content: Content) -> str:
     """The part of the page; nothing where there is no second answer."""
     if content.everywhere is None:
         return ""
@@ -19,17 +23,17 @@ def both(content):
             f'</thead><tbody>{"".join(rows)}</tbody></table><p>{regions_words(differing(content, content.everywhere))}</p></section>')
 
 
-def regions_words(regions):
+def regions_words(regions: Sequence[int]) -> str:
     """How many regions hold more at all points; the list of regions has a second strip for each."""
     if not regions:
         return "Each region holds the same in both."
-    return (f"{sentences.plural(len(regions), 'region')} of the list below {'holds' if len(regions) == 1 else 'hold'} more "
+    return (f"{plural(len(regions), 'region')} of the list below {'holds' if len(regions) == 1 else 'hold'} more "
             "at all points: the lower strip.")
 
 
-def row(name, left, right):
+def row(name: str, left: str, right: str) -> str:
     return f'<tr><th scope="row">{name}</th><td>{left}</td><td>{right}</td></tr>'
 
 
-def place_of(told):
+def place_of(told: Finding) -> str:
     return f"line {told.place.line}" if told.place else "fault"

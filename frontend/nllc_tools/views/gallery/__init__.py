@@ -1,1 +1,0 @@
-"""The gallery: cards with small functions, both verdicts and a sentence each."""
