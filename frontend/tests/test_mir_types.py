@@ -119,9 +119,12 @@ class Lines(unittest.TestCase):
         for text in ("_3 = ", "strange(_1)", "_1 = copy x", "_1 = Strange(move", "_1 = Some(strange _2)"):
             with self.subTest(statement=text), self.assertRaises(NotSaid):
                 read_statement(text)
-        for text in ("_3 = yield(move _1) -> [resume: bb1, drop: bb2]", 'asm!("nop") -> bb1', "strange -> bb1"):
-            with self.subTest(terminator=text), self.assertRaises(NotSaid):
+        for text, reason in (("_3 = yield(move _1) -> [resume: bb1, drop: bb2]", "a coroutine"),
+                             ("drop(_1) -> [return: bb1, unwind: bb3, drop: bb2]", "a coroutine"),
+                             ('asm!("nop") -> bb1', "assembler"), ("strange -> bb1", "a terminator that isn't understood")):
+            with self.subTest(terminator=text), self.assertRaises(NotSaid) as refused:
                 read_terminator(text)
+            self.assertEqual(refused.exception.reason, reason)
 
 
 if __name__ == "__main__":

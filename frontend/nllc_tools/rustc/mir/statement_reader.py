@@ -215,6 +215,8 @@ def read_terminator(text: str) -> Terminator:
     if text.startswith(("unreachable", "abort", "terminate")):
         return Leave(False)
     head, blocks = targets_of(text)
+    if "resume" in blocks or "drop" in blocks:    # where it waits, and where it is dropped meanwhile
+        raise NotSaid("a coroutine")
     reader = Lines(simplified(head))
     if head in ("goto", "falseEdge", "falseUnwind"):
         return Jump(there(blocks))
@@ -225,8 +227,6 @@ def read_terminator(text: str) -> Terminator:
         return Jump(there(blocks), reader.operand())
     if reader.takes("drop("):
         return Drop(reader.place(), there(blocks))
-    if " = yield(" in head:
-        raise NotSaid("a coroutine")
     if head.startswith("asm!"):
         raise NotSaid("assembler")
     if not head.startswith(("_", "(")):
