@@ -20,10 +20,12 @@ from nllc_tools.rustc.errors import Error, read_error
 from nllc_tools.rustc.mir.accesses import accesses
 from nllc_tools.rustc.mir.body import Body, Local
 from nllc_tools.rustc.mir.body_reader import reason_of
-from nllc_tools.rustc.mir.debug_places import Place, overlap, read_place
 from nllc_tools.rustc.mir.destructors import destroyed_by, path_to
 from nllc_tools.rustc.mir.desugarings import Desugarings, declarations
 from nllc_tools.rustc.mir.spans import Span
+from nllc_tools.rustc.mir.statement_reader import read_line, read_place
+from nllc_tools.rustc.mir.statements import Place, Step
+from nllc_tools.rustc.mir.type_reader import read_type
 from nllc_tools.model.said import Place as SourcePlace
 from nllc_tools.texts.snippets import snippet, whole_line
 from nllc_tools.texts.source import Source
@@ -33,50 +35,49 @@ from quick_solver import quick_values
 
 
 class Places(unittest.TestCase):
-    def read(self, text):
-        return read_place(text)[0]
-
     def test_forms(self):
-        self.assertEqual(self.read("_3"), Place(3))
-        self.assertEqual(self.read("(*_1)"), Place(1, ("*",)))
-        self.assertEqual(self.read("((*_1).0: &mut Vec<(u8, u8)>)"), Place(1, ("*", "0"), True))
-        self.assertEqual(self.read("((_1 as Some).0: fn(u8) -> u8)[_5][0 of 1]"),
-                         Place(1, ("as Some", "0", "[]", "[]")))
+        for text, words, has_lifetimes in (
+                ("_3", ("_3",), False),
+                ("(*_1)", ("_1", "*"), False),
+                ("((*_1).0: &mut Vec<(u8, u8)>)", ("_1", "*", "0"), True),
+                ("((_1 as Some).0: fn(u8) -> u8)[_5][0 of 1]", ("_1", "as Some", "0", "[]", "[]"), False),
+                ("(_1 as Some)", ("_1", "as Some"), False),
+                ("(_1.0: Word<'_>)[1..3]", ("_1", "0", "[]"), True)):
+            with self.subTest(place=text):
+                place = read_place(text)
+                self.assertEqual((place.words, place.has_lifetimes), (words, has_lifetimes))
 
     def test_no_place(self):
         for text in ("const 1_u8", "(", "(const 1_u8, move _3)", ""):
             self.assertIsNone(read_place(text), text)
 
-    def test_where_it_ends(self):
-        self.assertEqual(read_place("(*_1) = copy _2")[1], 5)
-
     def test_overlap(self):
-        whole, one, other = Place(1), Place(1, ("0",)), Place(1, ("1",))
-        self.assertTrue(overlap(whole, one) and overlap(one, Place(1, ("0", "*"))))
-        self.assertFalse(overlap(one, other))
-        self.assertFalse(overlap(one, Place(2, ("0",))))
-        self.assertTrue(overlap(Place(1, ("[]",)), Place(1, ("[]",))))
+        whole, one, other = map(read_place, ("_1", "(_1.0: u8)", "(_1.1: u8)"))
+        self.assertTrue(whole.overlaps(one) and one.overlaps(one.onward(Step("deref"))))
+        self.assertFalse(one.overlaps(other))
+        self.assertFalse(one.overlaps(read_place("(_2.0: u8)")))
+        self.assertTrue(read_place("_1[_2]").overlaps(read_place("_1[_2]")))
 
 
 class Destructors(unittest.TestCase):
     def owners(self, text, kind):
-        path = path_to(text, 0, lambda _: kind)
+        path = path_to(read_place(text), read_type(kind))
         return path.owners, path.is_behind
 
     def test_types_whose_fields_a_place_goes_through(self):
         for text, kind, owners, is_behind in (
                 ("_1", "S", (), False),
-                ("(_1.0: T)", "m::S<'_, u8>", ("m::S<'_, u8>",), False),
-                ("(*((_1.0: T<'_>).1: &mut u8))", "S", ("S", "T<'_>"), True),
-                ("((*_1).0: T)", "Box<S<(u8, u8)>, A>", ("S<(u8, u8)>",), False),
+                ("(_1.0: T)", "m::S<'_, u8>", ("m::S",), False),
+                ("(*((_1.0: T<'_>).1: &mut u8))", "S", ("S", "T"), True),
+                ("((*_1).0: T)", "Box<S<(u8, u8)>, A>", ("S",), False),
                 ("((*_1).0: T)", "&mut S", ("S",), True),
-                ("(_1[_2].0: T)", "[S<[u8; 2]>; 3]", ("S<[u8; 2]>",), False),
-                ("((_1 as Some).0: T)", "Option<T>", ("Option<T>",), False)):
+                ("(_1[_2].0: T)", "[S<[u8; 2]>; 3]", ("S",), False),
+                ("((_1 as Some).0: T)", "Option<T>", ("Option",), False)):
             with self.subTest(text=text, kind=kind):
                 self.assertEqual(self.owners(text, kind), (owners, is_behind))
 
     def test_whether_one_of_them_has_a_destructor(self):
-        path = path_to("((_1.0: m::T<u8>).1: u8)", 0, lambda _: "S")
+        path = path_to(read_place("((_1.0: m::T<u8>).1: u8)"), read_type("S"))
         self.assertTrue(path.is_seen_by({"m::T"}))
         self.assertFalse(path.is_seen_by({"T"}))
 
@@ -87,9 +88,13 @@ class Destructors(unittest.TestCase):
         self.assertEqual(destroyed_by(body, None), set())
 
 
+def line_of(text):
+    return read_line(text, " -> [" in text or " -> bb" in text or text == "return")
+
+
 class Accesses(unittest.TestCase):
-    def ways(self, statement):
-        return [(access.way, access.place and access.place.local) for access in accesses(statement)]
+    def ways(self, text):
+        return [(access.way, access.place and access.place.local) for access in accesses(line_of(text))]
 
     def test_statements(self):
         for statement, ways in {
@@ -104,6 +109,14 @@ class Accesses(unittest.TestCase):
                 [("moves", 1), ("assigns", 0)],
             "switchInt(copy _3) -> [0: bb3, otherwise: bb2]": [("reads", 3)],
             "_4 = discriminant((*_1))": [("reads", 1), ("assigns", 4)],
+            "_5 = &raw const (fake) (*_1)": [("reads", 1), ("assigns", 5)],
+            "_2 = f::<{closure@a.rs:1:2: 3:4}>(copy _1, String::new) -> bb1": [("reads", 1), ("assigns", 2)],
+            "_2 = String::new as fn() -> String (PointerCoercion(ReifyFnPointer(Safe), Implicit))": [("assigns", 2)],
+            "_5 = yield(move _6) -> [resume: bb2, drop: bb5]": [("moves", 6), ("assigns", 5)],
+            'asm!("mov {}, {}", in(reg) move _1, out(reg) _2) -> [return: bb1, unwind unreachable]': [("moves", 1)],
+            'assert(move _5, "index {} of {}", copy _2, move _6) -> [success: bb1, unwind: bb2]':
+                [("moves", 5), ("reads", 2), ("moves", 6)],
+            "strange(_1)": [],
             "FakeRead(ForMatchedPlace(None), _2)": [("reads", 2)],
             "PlaceMention((*_2))": [("reads", 2)],
             "StorageDead(_5)": [("ends", 5)],
@@ -115,10 +128,10 @@ class Accesses(unittest.TestCase):
             self.assertEqual(self.ways(statement), ways, statement)
 
     def test_what_disturbs_a_loan(self):
-        read, write = accesses("_3 = copy _1")[0], accesses("_1 = const 3_u8")[0]
+        read, write = (next(accesses(line_of(text))) for text in ("_3 = copy _1", "_1 = const 3_u8"))
         self.assertFalse(read.disturbs("shared", Place(1)))
         self.assertTrue(read.disturbs("mut", Place(1)))
-        self.assertTrue(write.disturbs("shared", Place(1, ("0",))))
+        self.assertTrue(write.disturbs("shared", read_place("(_1.0: u8)")))
         self.assertFalse(write.disturbs("mut", Place(2)))
 
 

@@ -184,6 +184,7 @@ class BadDumps(unittest.TestCase):
         for old, new, reason in (("StorageLive(_3)", "Retag(_3)", "a statement that isn't understood"),
                                  ("unwind: bb2]", "unwind:: bb2]", "a terminator that isn't understood"),
                                  ("        resume; ", "        leave; ", "a terminator that isn't understood"),
+                                 ("        resume; ", "        drop(_3) -> [return: bb1, drop: bb2]; ", "a coroutine"),
                                  ("_0 = copy ((*_1)", "_0 = Strange((copy ((*_1)", "a type that isn't understood"),
                                  ("_0 = copy ((*_1).0: &'?10 str)", "_0 = Strange(copy ((*_1).0: &'?10 str))",
                                   "a value that isn't understood")):

@@ -4,7 +4,7 @@ import unittest
 
 import facts_support  # noqa: F401 (it puts the frontend on the path)
 from nllc_tools.rustc.mir.statement_reader import read_statement, read_terminator
-from nllc_tools.rustc.mir.statements import Assign, Call, Constant, Drop, Jump, Leave, Place, Read, Step, Storage
+from nllc_tools.rustc.mir.statements import Assign, Call, Constant, Drop, Foreign, Jump, Leave, Place, Read, Step, Storage
 from nllc_tools.rustc.mir.type_reader import read_type
 from nllc_tools.rustc.mir.types import PLAIN, UNIT, Type
 from nllc_tools.rustc.unsaid import NotSaid
@@ -44,6 +44,9 @@ class Types(unittest.TestCase):
                                                Type("fn", "", (Type("tuple", "", (U8,)), UNIT)))),
         "Opaque(DefId(0:7 ~ input[95fa]::f::{opaque#0}), ['?4, T])":
             Type("alias", "DefId(0:7 ~ input[95fa]::f::{opaque#0})", (4, Type("plain", "T"))),
+        "&mut {closure@a.rs:1:2: 3:4}": reference("^", Type("closure", "{closure@a.rs:1:2: 3:4}"), "mut"),
+        "Filter<Iter<'_, u8>, {async block@a.rs:1:2: 3:4}>": Type("adt", "Filter", (
+            Type("adt", "Iter", ("'_", U8)), Type("closure", "{async block@a.rs:1:2: 3:4}"))),
         "impl Fn(u8) -> u8": Type("plain", "impl Fn(u8) -> u8"),
     }
 
@@ -86,7 +89,11 @@ class Lines(unittest.TestCase):
             Place(3), "make", (Place(1, (), True),), Type("adt", "std::option::Option::Some", (reference(4),))),
         "_3 = Pair::<'?1, '?2> { first: copy _1, second: copy _2 }": Assign(
             Place(3), "make", (Place(1), Place(2)), Type("adt", "Pair", (1, 2))),
-        "_3 = {closure@a.rs:1:2: 3:4} { text: copy _1 }": Assign(Place(3), "make", (Place(1),)),
+        "_3 = {closure@a.rs:1:2: 3:4} { text: copy _1 }": Assign(
+            Place(3), "make", (Place(1),), word="{closure@a.rs:1:2: 3:4}"),
+        "_2 = &mut _1": Assign(Place(2), "mut", (Place(1),), region="^"),
+        "_2 = copy _1[1..3]": Assign(Place(2), "use", (Place(1, (Step("part"),)),)),
+        "_2 = [const 'a', const \"(\"]": Assign(Place(2), "array", (Constant('""'), Constant('""'))),
     }
     TERMINATORS = {
         "return": Leave(True),
@@ -94,9 +101,10 @@ class Lines(unittest.TestCase):
         "unreachable": Leave(False),
         "goto -> bb3": Jump((3,)),
         "falseEdge -> [real: bb4, imaginary: bb3]": Jump((4, 3)),
-        "switchInt(move _5) -> [0: bb4, otherwise: bb3]": Jump((4, 3), Place(5, (), True)),
-        'assert(!copy _5, "an overflow -> of {}", copy _1) -> [success: bb2, unwind: bb7]': Jump((2, 7), Place(5)),
+        "switchInt(move _5) -> [0: bb4, otherwise: bb3]": Jump((4, 3), (Place(5, (), True),)),
+        'assert(!copy _5, "an overflow -> of {}", copy _1) -> [success: bb2, unwind: bb7]': Jump((2, 7), (Place(5), Place(1))),
         "drop(_3) -> [return: bb1, unwind: bb2]": Drop(Place(3), (1, 2)),
+        "drop(_1) -> [return: bb1, unwind: bb3, drop: bb2]": Drop(Place(1), (1, 3, 2), True),
         "drop((*_3)) -> [return: bb1, unwind terminate(cleanup)]": Drop(Place(3, (Step("deref"),)), (1,)),
         "_3 = move _2(copy _1) -> [return: bb1, unwind continue]": Call(
             Place(3), Place(2, (), True), (Place(1),), 1, None),
@@ -119,12 +127,15 @@ class Lines(unittest.TestCase):
         for text in ("_3 = ", "strange(_1)", "_1 = copy x", "_1 = Strange(move", "_1 = Some(strange _2)"):
             with self.subTest(statement=text), self.assertRaises(NotSaid):
                 read_statement(text)
-        for text, reason in (("_3 = yield(move _1) -> [resume: bb1, drop: bb2]", "a coroutine"),
-                             ("drop(_1) -> [return: bb1, unwind: bb3, drop: bb2]", "a coroutine"),
-                             ('asm!("nop") -> bb1', "assembler"), ("strange -> bb1", "a terminator that isn't understood")):
-            with self.subTest(terminator=text), self.assertRaises(NotSaid) as refused:
-                read_terminator(text)
-            self.assertEqual(refused.exception.reason, reason)
+        with self.assertRaises(NotSaid):
+            read_terminator("strange -> bb1")
+
+    def test_what_no_text_says(self):
+        for text, reason, operands in (("_3 = yield(move _1) -> [resume: bb1, drop: bb2]", "a coroutine", (Place(1, (), True),)),
+                                       ('asm!("nop") -> bb1', "assembler", ())):
+            with self.subTest(terminator=text):
+                found = read_terminator(text)
+                self.assertEqual((type(found), found.reason.reason, found.operands), (Foreign, reason, operands))
 
 
 if __name__ == "__main__":

@@ -10,7 +10,7 @@ from nllc_tools.base.grouping import grouped
 from nllc_tools.base.walks import backwards, shortest
 from nllc_tools.model.regions import STATIC
 from nllc_tools.rustc.mir.body import Body, Reason
-from nllc_tools.rustc.mir.captures import MADE
+from nllc_tools.rustc.mir.captures import made_at
 from nllc_tools.rustc.mir.desugarings import Desugarings
 
 # rustc's categories of constraints in words. The others say nothing of the source.
@@ -101,6 +101,6 @@ class Blame:
 
     def is_of_closure(self, reason: Reason) -> bool:
         """Whether the body of a closure asks for it, of the function around it: its place is a part of the closure's."""
-        made = self.body.statements.get(reason.location) if reason.location else None
-        inner, outer = reason.span, made.span if made and MADE.search(made.text) else None
+        made = made_at(self.body, reason.location) if reason.location else None
+        inner, outer = reason.span, made.span if made else None
         return inner is not None and outer is not None and inner != outer and inner.is_inside(outer)

@@ -1,6 +1,5 @@
 """The loans of a function: what is borrowed, what goes against it, as rustc's tables have it."""
 
-import re
 from dataclasses import dataclass, field
 from functools import cached_property
 from typing import NamedTuple, Optional
@@ -9,21 +8,16 @@ from nllc_tools.base.refusal import Refusal
 from nllc_tools.rustc.dumps import Dump
 from nllc_tools.rustc.mir.accesses import WRITES, Access, accesses
 from nllc_tools.rustc.mir.body import Body
-from nllc_tools.rustc.mir.captures import MADE, capture_at, capture_of
-from nllc_tools.rustc.mir.debug_places import Place, overlap, read_place
+from nllc_tools.rustc.mir.captures import capture_at, capture_of, made_at
 from nllc_tools.rustc.mir.destructors import Path, path_to
 from nllc_tools.rustc.mir.spans import Span
+from nllc_tools.rustc.mir.statements import Assign, Drop, Foreign, Place, target_of
 from nllc_tools.rustc.tables import Location, Tables
 
-BORROW = re.compile(r" = &(mut |fake (?:shallow |deep )?)?")
+KINDS = {"ref": "shared", "mut": "mut", "fake": "fake"}
 
 # How what is borrowed goes away.
 ENDING = ("ends", "drops", "leaves")
-
-# The type of what a closure has borrowed: there it is as if it were `mut`.
-ENVIRONMENT = re.compile(r"\{(?:closure|coroutine|async|gen)")
-RESUME = re.compile(r" = yield\(.*\) -> \[resume: bb(\d+)")
-DROP = re.compile(r"drop\((.*)\) -> \[return: bb(\d+)")
 
 
 @dataclass(frozen=True)
@@ -77,32 +71,28 @@ class Loans:
                       for region, number, spot in tables.loan_issued_at}
         for number, spot in tables.loan_killed_at:
             self.loans[number].killed.append(spot.location)
-        self.resumed = {Location(int(found[1]), 0)
-                        for found in (RESUME.search(said.text)
-                                      for said in body.statements.values()) if found}
+        self.resumed = {Location(line.resumes, 0) for line in map(body.line, body.statements)
+                        if isinstance(line, Foreign) and line.resumes is not None}
         self.invalid = {(spot.location, number) for spot, number in tables.loan_invalidated_at}
         self.issued = {loan.location: loan for loan in self.loans.values()}
         self.by_target = {loan.target: loan for loan in self.loans.values()
                           if loan.kind == "mut" and loan.target is not None}
 
     def loan(self, dump: Dump, region: int, location: Location) -> Loan:
-        text, span, _ = self.body.statements[location]
-        target, end = read_place(text) or (None, 0)
-        way = BORROW.search(text, end)
-        borrowed = read_place(text, way.end()) if way else None
-        if way is None or borrowed is None:
+        line, span = self.body.line(location), self.body.statements[location].span
+        if not isinstance(line, Assign) or not line.is_borrow():
             raise Refusal(f"{self.body.path}: rustc's facts have a borrow where its MIR dump has none; "
                           "rustc 1.95 is known to work")
-        kind, (place, _) = (way[1] or "shared").split()[0], borrowed
-        variable = target.local if target and not target.steps else None
+        kind, place = KINDS[line.kind], line.source
+        variable = None if line.place.steps else line.place.local
         capture = None if variable is None else capture_of(dump, self.body, variable, self.uses.get(variable, ()))
         root = self.body.locals.get(place.local)
         of_closure = capture if capture is not None and not capture.is_async else None
         home = of_closure.use if of_closure else root.span if root and not root.name else None
-        path = path_to(text, way.end(), lambda number: self.body.locals[number].type)
+        path, outer = path_to(place, self.body.type_of(place.local)), self.body.type_of(place.local)
         is_unique = capture is not None and kind == "mut" and root is not None \
-            and (not root.is_mutable or capture.is_behind and path.type.startswith("&mut ")) \
-            and not ENVIRONMENT.search(root.type)
+            and (not root.is_mutable or capture.is_behind and path.type.form == "mut") \
+            and not any(type.is_closure() for type in outer.nested())   # what that has borrowed is as if it were `mut`
         return Loan(region, location, kind, place, variable, capture.home if capture else span, path, home,
                     of_closure is not None, is_unique)
 
@@ -119,13 +109,13 @@ class Loans:
 
     def span(self, location: Location, way: Way) -> Optional[Span]:
         """Where a statement goes against loans: of what a closure takes the closure, of its copies the use in it."""
-        said, made = self.body.statements[location], self.issued.get(location)
-        if made and made.is_capture:
-            return made.span
-        if way.word in ("moves", "reads") and way.place and MADE.search(said.text):
-            capture = capture_at(self.dump.mir, said, way.place)
-            return capture.home if way.word == "moves" else capture.use or said.span
-        return said.span
+        span, issued = self.body.statements[location].span, self.issued.get(location)
+        if issued and issued.is_capture:
+            return issued.span
+        if way.word in ("moves", "reads") and way.place and (made := made_at(self.body, location)):
+            capture = capture_at(self.dump.mir, made, way.place)
+            return capture.home if way.word == "moves" else capture.use or span
+        return span
 
     def ending(self) -> dict[int, Loan]:
         """The loans of what goes away while they may be in force."""
@@ -146,9 +136,10 @@ class Loans:
 
     def is_replaced(self, location: Location) -> bool:
         """Whether what is dropped there gets a new value at once: that is one assignment."""
-        dropped = DROP.match(self.body.statements[location].text)
-        following = self.body.statements.get(Location(int(dropped[2]), 0)) if dropped else None
-        return dropped is not None and following is not None and following.text.startswith(f"{dropped[1]} = ")
+        dropped = self.body.line(location)
+        following = Location(dropped.blocks[0], 0) if isinstance(dropped, Drop) and dropped.blocks else None
+        target = target_of(self.body.line(following)) if following in self.body.statements else None
+        return isinstance(dropped, Drop) and target is not None and target.is_same(dropped.place)
 
     def way(self, location: Location, loan: Loan) -> Optional[Way]:
         """How the statement goes against the loan, if it does.
@@ -156,14 +147,14 @@ class Loans:
         rustc's tables have it that a coroutine which goes on goes against all loans of its
         variables. That is so of those that may be moved meanwhile, which stable Rust doesn't have.
         """
-        found = accesses(self.body.statements[location].text)
+        found = list(accesses(self.body.line(location)))
         direct = next((one for one in found if one.disturbs(loan.kind, loan.place)), None)
         if direct and direct.way == "moves" and loan.kind == "fake":
             return None     # rustc leaves that to its check of moves
         if direct:
             return Way(self.more_exactly(direct.way, location, loan), direct.place)
         begun = (self.by_target.get(one.place.local) for one in found if one.place)
-        first = next((one for one in begun if one and one is not loan and overlap(one.place, loan.place)), None)
+        first = next((one for one in begun if one and one is not loan and one.place.overlaps(loan.place)), None)
         if first:
             return Way("late", first.place, first.location)
         if location in self.resumed:

@@ -11,7 +11,8 @@ from nllc_tools.base.walks import backwards, shortest
 from nllc_tools.model.liveness import MovePaths, neighbours
 from nllc_tools.rustc.errors import Error
 from nllc_tools.rustc.mir.body import Body
-from nllc_tools.rustc.mir.captures import MADE, home_of
+from nllc_tools.rustc.mir.captures import closure_with, made_at
+from nllc_tools.rustc.mir.statements import Assign, Storage
 from nllc_tools.rustc.tables import Location, Spot, Tables
 
 MOVES = ("E0381", "E0382", "E0384")
@@ -72,20 +73,15 @@ class Moved(MovePaths):
         return self.variable.get(root, 0)
 
     def begins_at(self, location: Location, error: Error) -> bool:
-        """Whether a statement, or the closure that it makes, begins where the error is."""
-        text, span, _ = self.body.statements[location]
+        """Whether a statement, or the closure that it makes or borrows for, begins where the error is."""
+        line, span = self.body.line(location), self.body.statements[location].span
         file = error.places[0][0]
         if span is None or (span.file, span.first) > (file, error.line):
             return False
-        made = MADE.search(text) or self.made_of(text)
-        begins = (span, home_of(made[1], span)) if made else (span,)
-        return any(one is not None and (one.file, one.first, one.column) == (file, error.line, error.column) for one in begins)
-
-    def made_of(self, text: str) -> Optional[re.Match[str]]:
-        """The closure for which a statement borrows, if it does."""
-        target = text.split(" = &")[0] if " = &" in text else None
-        made = (MADE.search(said.text) for said in self.body.statements.values() if target and f"move {target}" in said.text)
-        return next(filter(None, made), None)
+        target = line.place if isinstance(line, Assign) and line.is_borrow() else None
+        made = made_at(self.body, location) or (target and closure_with(self.body, target))
+        begins = (span, made.home_in(span)) if made else (span,)
+        return any((one.file, *one.begin) == (file, error.line, error.column) for one in begins)
 
     def gone_at(self, path: int, spot: Spot) -> Optional[Gone]:
         """The moves, or the missing value, by which an access to a path is wrong."""
@@ -120,7 +116,8 @@ class Moved(MovePaths):
         return shortest(onward(spot), lambda here: ((before, here) for before in onward(here)))
 
     def is_move(self, spot: Spot) -> bool:
-        return spot.is_mid and not self.body.statements[spot.location].text.startswith("StorageDead")
+        line = self.body.line(spot.location)
+        return spot.is_mid and not (isinstance(line, Storage) and not line.is_live)
 
 
 def locations(spots: list[Spot]) -> list[Location]:

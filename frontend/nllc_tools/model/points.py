@@ -8,7 +8,7 @@ the statement does. An edge from `Mid` of P to `Start` of Q is `next P Q`.
 from dataclasses import dataclass
 
 from nllc_tools.base.refusal import Refusal
-from nllc_tools.rustc.mir.body import LEAVING, Body
+from nllc_tools.rustc.mir.body import Body
 from nllc_tools.rustc.tables import Location, Tables
 
 
@@ -33,6 +33,4 @@ def number_points(tables: Tables, body: Body) -> Points:
     for begin, end in tables.cfg_edge:
         if begin.is_mid and number[end.location] not in successors[number[begin.location]]:
             successors[number[begin.location]].append(number[end.location])
-    returns = [number[location] for location in locations
-               if body.statements[location].text in LEAVING]
-    return Points(locations, number, successors, returns)
+    return Points(locations, number, successors, [number[location] for location in locations if body.leaves(location)])

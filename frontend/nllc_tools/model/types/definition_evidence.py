@@ -2,10 +2,9 @@
 
 from typing import Iterator
 
-from nllc_tools.model.types.definitions import (BACK, BOTH, FORWARD, Definitions, Evidence, Key, behind, made_type, own_signs,
-                                                times)
-from nllc_tools.rustc.mir.function import Function, Paths, places_of
-from nllc_tools.rustc.mir.statements import Assign, Call, Constant, Line, Place
+from nllc_tools.model.types.definitions import BACK, BOTH, FORWARD, Evidence, Key, made_type, own_signs, times
+from nllc_tools.rustc.mir.function import Function, Paths
+from nllc_tools.rustc.mir.statements import Assign, Call, Constant, Line, Place, behind, places_of
 from nllc_tools.rustc.mir.types import PLAIN, STATIC, Region, Type
 
 
@@ -29,8 +28,7 @@ class Gatherer:
     def dropped(self, type: Type, regions: set[int]) -> None:
         """A drop goes through tuples and closures; of others it looks at regions."""
         if type.form in ("tuple", "slice", "closure"):
-            parts = type.parts[0].parts if type.form == "closure" else type.parts
-            for part in parts:
+            for part in type.captures if type.form == "closure" else type.types:
                 self.dropped(part, regions)
         elif type.form in ("adt", "alias", "dyn", "coroutine"):
             own = {number for number, one in enumerate(type.regions()) if one in regions}
@@ -48,12 +46,9 @@ class Gatherer:
         type = self.function.locals[place.local]
         written = {one for step in place.steps if step.type is not None for one in step.type.regions()}
         for step in place.steps:
-            if step.kind == "field" and type.form not in ("tuple", "closure", "coroutine"):
+            if step.type is not None and type.form not in ("tuple", "closure", "coroutine"):
                 self.field(paths, type, step.variant, step.field, step.type, written)
-            if step.type is not None:
-                type = step.type
-            else:
-                type = behind(Definitions(Evidence()), type, step) or PLAIN
+            type = behind(type, step) or PLAIN
         return type
 
     def field(self, paths: Paths, base: Type, variant: str, number: int, type: Type, written: set[int]) -> None:
@@ -98,7 +93,7 @@ class Gatherer:
         signature = line.function.type if isinstance(line.function, Constant) else None
         if signature is None or signature.form != "function":
             return
-        *inputs, output = signature.parts[1].parts
+        *inputs, output = signature.types[1].types
         self.meet(paths, output, types[0])
         places = iter(types[1:])
         for operand, input in zip(line.operands, inputs):

@@ -7,6 +7,7 @@ mark are those by which all lines of a crate agree. One line would agree with it
 from dataclasses import dataclass, field
 from typing import Iterator, Optional, Sequence
 
+from nllc_tools.rustc.mir import statements
 from nllc_tools.rustc.mir.statements import Step
 from nllc_tools.rustc.mir.types import PLAIN, STATIC, Type
 
@@ -25,16 +26,6 @@ def times(outer: str, inner: str) -> str:
     return TIMES.get((outer, inner), "=")
 
 
-def part_of(type: Type, number: int) -> Type:
-    """A part of a type that is a type."""
-    part: Type = type.parts[number]
-    return part
-
-
-def is_box(type: Type) -> bool:
-    return type.form == "adt" and type.name.rpartition("::")[2] == "Box"
-
-
 def is_opaque(type: Type) -> bool:
     """Whether it is an `impl Trait` of a result."""
     return type.form == "alias" and "{opaque#" in type.name
@@ -42,7 +33,7 @@ def is_opaque(type: Type) -> bool:
 
 def has_opaque(type: Type) -> bool:
     """Whether an `impl Trait` of a result is the type, or a part of it."""
-    return is_opaque(type) or any(isinstance(part, Type) and has_opaque(part) for part in type.parts)
+    return any(map(is_opaque, type.nested()))
 
 
 def own_signs(type: Type) -> Sequence[Optional[str]]:
@@ -142,11 +133,9 @@ class Definitions:
 
     def field(self, base: Type, variant: str, number: int, written: Optional[Type]) -> Optional[Type]:
         """The type of a field by the regions of the type that it is of; of that of a struct a use writes the shape."""
-        if base.form == "tuple":
-            return part_of(base, number) if number < len(base.parts) else None
-        if base.form in ("closure", "coroutine"):
-            upvars = part_of(base, 0)
-            return part_of(upvars, number) if number < len(upvars.parts) else None
+        if base.form == "tuple" or base.is_closure():
+            own = base.captures if base.is_closure() else base.types
+            return own[number] if number < len(own) else None
         if written is None or not written.regions():
             return written and written.shape()
         found = self.evidence.fields.get((base.shape(), variant, number, written.shape()))
@@ -158,17 +147,11 @@ class Definitions:
 
 def behind(definitions: Definitions, base: Type, step: Step) -> Optional[Type]:
     """The type of a place one step further; None where it isn't known."""
-    if step.kind == "deref":
-        if base.form in ("ref", "mut"):
-            return part_of(base, 1)
-        if base.form in ("pointer", "mut pointer") or is_box(base):
-            return part_of(base, 0)
-        return None
+    if step.kind == "field":
+        return definitions.field(base, step.variant, step.field, step.type)
     if step.kind == "index":
-        return part_of(base, 0) if base.form == "slice" else PLAIN
-    if step.kind in ("part", "variant"):
-        return base
-    return definitions.field(base, step.variant, step.field, step.type)
+        return statements.behind(base, step) or PLAIN
+    return statements.behind(base, step)
 
 
 def made_type(written: Type, target: Type) -> Optional[tuple[Type, str]]:

@@ -7,7 +7,7 @@ part. Each other type is a struct of its own, told by its shape: its parameters 
 import re
 from typing import Callable, Iterable, Iterator, NamedTuple, Optional
 
-from nllc_tools.model.types.definitions import Definitions, behind, is_box
+from nllc_tools.model.types.definitions import Definitions, behind
 from nllc_tools.rustc.mir.statements import Place, Step
 from nllc_tools.rustc.mir.types import STATIC, Region, Type
 from nllc_tools.rustc.unsaid import NotSaid
@@ -51,14 +51,14 @@ class Structs:
             return "int"
         if type.form in ("ref", "mut"):
             mut = "mut " if type.form == "mut" else ""
-            return f"&{name(type.parts[0])} {mut}{self.spell(type.parts[1], name)}"
+            return f"&{name(type.region)} {mut}{self.spell(type.types[0], name)}"
         if type.form == "pointer":
-            return f"&'static {self.spell(type.parts[0], name)}"
+            return f"&'static {self.spell(type.types[0], name)}"
         if type.form in ("tuple", "slice"):
-            return f"({', '.join(self.spell(part, name) for part in type.parts)})"
+            return f"({', '.join(self.spell(part, name) for part in type.types)})"
         if type.form == "fn" and not type.bound():
             self.has_functions = True
-            *inputs, output = (self.spell(part, name) for part in type.parts)
+            *inputs, output = (self.spell(part, name) for part in type.types)
             return f"fn({', '.join(inputs)}) -> {output}"
         own = self.declare(type.shape())
         regions = [name(region) for region, sign in self.definitions.positions(type) if sign != "0"]
@@ -110,8 +110,8 @@ class Structs:
     def keys(self, shape: Type) -> list[tuple[str, int]]:
         """The fields in order: those of a struct by their numbers, an enum's discriminant before its variants' fields."""
         wanted = self.wanted.get(shape, {})
-        if shape.form in ("closure", "coroutine"):
-            return [("", number) for number in range(len(shape.parts[0].parts))]
+        if shape.is_closure():
+            return [("", number) for number in range(len(shape.captures))]
         if shape.form == "mut pointer" or INSIDE in wanted:
             return [INSIDE, *sorted(key for key in wanted if key != INSIDE)]
         if any(variant for variant, _ in wanted) or DISCRIMINANT in wanted:
@@ -122,12 +122,12 @@ class Structs:
         wanted = self.wanted.get(shape, {})
         for variant, number in self.keys(shape):
             if (variant, number) == INSIDE and shape.form == "mut pointer":
-                yield f"&'static {self.field_spelled(shape, INSIDE, numbered.parts[0])}"
+                yield f"&'static {self.field_spelled(shape, INSIDE, numbered.types[0])}"
                 continue
             if (variant, number) == INSIDE:
-                type = numbered.parts[0]
+                type: Optional[Type] = numbered.types[0]
             elif (variant, number) == DISCRIMINANT or (
-                    (variant, number) not in wanted and shape.form not in ("closure", "coroutine")):
+                    (variant, number) not in wanted and not shape.is_closure()):
                 type = None
             else:
                 type = self.definitions.field(numbered, variant, number, wanted.get((variant, number)))
@@ -152,16 +152,15 @@ class Structs:
                 return True
             if one not in self.names:
                 todo += self.needed(one)
-            todo += [part.shape() for part in one.parts if isinstance(part, Type)
-                     and one.form in ("ref", "mut", "pointer", "tuple", "slice", "fn")]
+            todo += [part.shape() for part in one.types if one.form in ("ref", "mut", "pointer", "tuple", "slice", "fn")]
         return False
 
     def needed(self, shape: Type) -> Iterator[Type]:
         """The shapes of the fields of a struct that isn't declared yet."""
         for key in self.keys(shape):
             if key == INSIDE:
-                yield shape.parts[0].shape()
-            elif key != DISCRIMINANT and (key in self.wanted.get(shape, {}) or shape.form in ("closure", "coroutine")):
+                yield shape.types[0].shape()
+            elif key != DISCRIMINANT and (key in self.wanted.get(shape, {}) or shape.is_closure()):
                 type = self.definitions.field(shape, *key, self.wanted.get(shape, {}).get(key))
                 if type is not None:
                     yield type.shape()
@@ -199,7 +198,7 @@ def step_of(structs: Structs, base: Type, step: Step) -> Optional[str]:
         if base.form == "mut pointer":
             index = structs.index(base, INSIDE)
             return None if index is None else f".{index}.*"
-        if is_box(base):
+        if base.is_box():
             index = structs.index(base, INSIDE)
             return None if index is None else f".{index}"
         return ".*"
@@ -224,9 +223,9 @@ def fields_of(definitions: Definitions, locals: dict[int, Type], places: Iterato
             next_type = behind(definitions, type, step)
             if next_type is None:
                 raise NotSaid("a field whose type isn't known", f"{type.form} {type.name} {step.variant}.{step.field}")
-            if step.kind == "field" and type.form not in ("tuple", "closure", "coroutine"):
+            if step.type is not None and type.form not in ("tuple", "closure", "coroutine"):
                 fields[Field(type.shape(), step.variant, step.field, step.type.shape())] = None
-            if step.kind == "deref" and is_box(type):
+            if step.kind == "deref" and type.is_box():
                 fields[Field(type.shape(), *INSIDE, None)] = None
             types.append(next_type)
         if any(not type.regions() for type in types[:-1]):
@@ -250,4 +249,4 @@ def behind_which(chains: list[list[Type]]) -> set[Type]:
 
 def has_one(type: Type, shapes: set[Type]) -> bool:
     """Whether one of the shapes is the type, or a part of it."""
-    return type in shapes or any(isinstance(part, Type) and has_one(part, shapes) for part in type.parts)
+    return not shapes.isdisjoint(type.nested())

@@ -1,24 +1,17 @@
-"""What a statement of MIR does to places: moves, reads, borrows, assigns to them, ends them."""
+"""What a line of MIR does to places: moves, reads, borrows, assigns to them, ends them."""
 
-import re
-from functools import lru_cache
 from typing import Iterator, NamedTuple, Optional
 
-from nllc_tools.rustc.mir.body import LEAVING
-from nllc_tools.rustc.mir.debug_places import Place, overlap, read_place
-
-QUOTED = re.compile(r'"(?:[^"\\]|\\.)*"')
-WAYS = re.compile(
-    r"(?P<moves>\bmove )|(?P<mut>&(?:raw )?mut )|(?P<looks>&fake (?:shallow |deep )?)"
-    r"|(?P<shared>&(?:raw const )?)|(?P<reads>\b(?:copy |deref_copy |discriminant\(|Len\("
-    r"|PlaceMention\(|FakeRead\(\w+(?:\(\w+\))?, ))")
+from nllc_tools.rustc.mir.statements import Assign, Drop, Leave, Line, Place, Read, Storage, operands_of, target_of
 
 # Which accesses disturb a loan: of one that may write, reads too.
 WRITES = ("moves", "mut", "assigns", "ends", "drops", "leaves")
+BORROWS = {"ref": "shared", "mut": "mut", "fake": "looks"}
+POINTERS = {"const": "shared", "mut": "mut", "fake": "reads"}
 
 
 class Access(NamedTuple):
-    """How a statement accesses a place; all that the function owns, where it leaves it."""
+    """How a line accesses a place; all that the function owns, where it leaves it."""
 
     way: str
     place: Optional[Place]
@@ -27,29 +20,29 @@ class Access(NamedTuple):
         """Whether the access may go against a loan of this kind (`mut`, `shared`) of a place."""
         if self.way not in WRITES and kind != "mut":
             return False
-        return self.place is None or overlap(self.place, place)
+        return self.place is None or self.place.overlaps(place)
 
 
-@lru_cache(64)  # of one statement against many loans
-def accesses(statement: str) -> list[Access]:
-    """The accesses of a statement, in the order in which they take effect."""
-    text = QUOTED.sub('""', statement)
-    if text in LEAVING:
-        return [Access("leaves", None)]
-    for word, way in (("StorageDead(", "ends"), ("drop(", "drops")):
-        if text.startswith(word):
-            found = read_place(text, len(word))
-            return [Access(way, found.place)] if found else []
-    return list(of_statement(text))
+def accesses(line: Line) -> Iterator[Access]:
+    """The accesses of a line, in the order in which they take effect: what is read, moved and borrowed, then the assignment."""
+    if isinstance(line, Leave) and line.is_return:
+        yield Access("leaves", None)
+    elif isinstance(line, Storage) and not line.is_live:
+        yield Access("ends", Place(line.local))
+    elif isinstance(line, (Drop, Read)):
+        yield Access("drops" if isinstance(line, Drop) else "reads", line.place)
+    for operand in operands_of(line):
+        if isinstance(operand, Place):
+            yield Access(way_of(line, operand), operand)
+    target = target_of(line)
+    if target is not None:
+        yield Access("assigns", target)
 
 
-def of_statement(text: str) -> Iterator[Access]:
-    """What is read, moved and borrowed, and then what is assigned to."""
-    read = read_place(text)
-    target = read if read and text.startswith(" = ", read.end) else None
-    for way in WAYS.finditer(text, target.end if target else 0):
-        found = read_place(text, way.end())
-        if found:
-            yield Access(way.lastgroup or "", found.place)
-    if target:
-        yield Access("assigns", target.place)
+def way_of(line: Line, operand: Place) -> str:
+    """How a line uses an operand."""
+    if isinstance(line, Assign) and line.is_borrow():
+        return BORROWS[line.kind]
+    if isinstance(line, Assign) and line.kind == "raw":
+        return POINTERS[line.word]
+    return "moves" if operand.is_moved else "reads"

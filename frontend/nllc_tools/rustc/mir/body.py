@@ -9,16 +9,16 @@ from dataclasses import dataclass, field
 from itertools import chain
 from typing import Iterator, NamedTuple, Optional, Union
 
-from nllc_tools.rustc.mir.debug_places import Place
+from nllc_tools.base.grouping import grouped
 from nllc_tools.rustc.mir.spans import Span
+from nllc_tools.rustc.mir.statement_reader import read_line
+from nllc_tools.rustc.mir.statements import Assign, Call, Constant, Foreign, Leave, Line, Place
+from nllc_tools.rustc.mir.type_reader import type_or_plain
+from nllc_tools.rustc.mir.types import Type
 from nllc_tools.rustc.tables import Location
 
-NO_CALLS = ("drop(", "assert(", "switchInt(", "falseEdge", "falseUnwind")
-CALL = re.compile(r"(?:.*? = )?(?:(?:move|copy) _(\d+)|.*?)\(.*\) -> ")
-RECEIVER = re.compile(r"(?:.*? = )?[^=]*?\((?:move|copy) _(\d+)\b.*\) -> ")
-REBORROW = re.compile(r"_(\d+) = &(?:mut )?\(\*_(\d+)\)")
-GIVEN = re.compile(r"_(\d+) = (?!const )")
 RUN = re.compile(r"bb(\d+)\[(\d+)(?:\.\.=(\d+))?\]")
+DEREF = ("*",)
 
 
 class Reason(NamedTuple):
@@ -46,7 +46,7 @@ class Statement(NamedTuple):
 
 @dataclass
 class Local:
-    """A variable of MIR: its type without regions, its name in the source, where it is declared."""
+    """A variable of MIR: its type as rustc prints it, its name in the source, where it is declared."""
 
     type: str
     name: Optional[str] = None
@@ -69,7 +69,7 @@ class Live:
 
 @dataclass
 class Body:
-    """The dump of one function."""
+    """The dump of one function. What is captured is known by the words of its place."""
 
     path: str
     is_function: bool = False
@@ -80,24 +80,43 @@ class Body:
     reasons: list[Reason] = field(default_factory=list)
     needs: list[tuple[int, int]] = field(default_factory=list)
     live: Live = field(default_factory=lambda: Live({}))
-    captured: dict[Place, str] = field(default_factory=dict)
+    captured: dict[tuple[str, ...], str] = field(default_factory=dict)
+    lines: dict[Location, Line] = field(default_factory=dict)
+
+    def line(self, location: Location) -> Line:
+        """What the statement or terminator says, which is read once that is asked for."""
+        if location not in self.lines:
+            is_last = Location(location.block, location.index + 1) not in self.statements
+            self.lines[location] = read_line(self.statements[location].text, is_last)
+        return self.lines[location]
+
+    def leaves(self, location: Location) -> bool:
+        """Whether the caller goes on behind it: it has the result, catches a panic, or drops a coroutine.
+
+        (`return`; `resume` ends each way on which a panic goes out of the function.)
+        """
+        line = self.line(location)
+        return isinstance(line, Leave) and line.is_return
+
+    def type_of(self, local: int) -> Type:
+        """The type of a variable, as far as it is understood."""
+        return type_or_plain(self.locals[local].type)
 
     def name_of(self, place: Place) -> Optional[str]:
         """The name of the variable of which a place is a part; in a closure, of what it has captured, too."""
         root = self.locals.get(place.local)
         if root and root.name:
             return root.name
-        return next((name for captured, name in self.captured.items()
-                     if captured.local == place.local and captured.steps == place.steps[:len(captured.steps)]), None)
+        words = place.words
+        return next((name for captured, name in self.captured.items() if captured == words[:len(captured)]), None)
 
     def function_span(self, location: Location) -> Optional[Span]:
         """Where the function stands that is called there: its name, or else the temporary that has it."""
-        text, span, constant = self.statements[location]
-        found = CALL.match(text)
-        if not found or text.startswith(NO_CALLS):
-            return None
-        local = self.locals.get(int(found[1])) if found[1] else None
-        return constant if not found[1] else local.span if local and not local.name else span
+        line, (_, span, constant) = self.line(location), self.statements[location]
+        if isinstance(line, Call) and isinstance(line.function, Place) and not line.function.steps:
+            local = self.locals.get(line.function.local)
+            return local.span if local and not local.name else span
+        return constant if isinstance(line, (Call, Foreign)) else None
 
     def spans(self) -> Iterator[Span]:
         """The places in the source that the dump names."""
@@ -107,15 +126,25 @@ class Body:
 
 def methods_on_results(body: Body) -> Iterator[tuple[Location, Span]]:
     """The assignments to a variable on which the block that has them calls a function at its end, and where that stands."""
-    ends = {location.block: location for location in sorted(body.statements)}
-    for block, end in ends.items():
-        said = body.statements[end]
-        receiver = RECEIVER.match(said.text)
-        if receiver and said.constant and not said.text.startswith(NO_CALLS):
-            before = [(one, body.statements[one].text) for one in (Location(block, index) for index in range(end.index))]
-            lent = {found[2] for _, text in before if (found := REBORROW.fullmatch(text)) and found[1] == receiver[1]}
-            yield from ((one, said.constant) for one, text in before
-                        if (found := GIVEN.match(text)) and found[1] in {receiver[1], *lent})
+    for locations in grouped((location.block, location) for location in sorted(body.statements)).values():
+        *before, end = locations
+        method, call = body.statements[end].constant, body.line(end)
+        receiver = call.operands[0] if method and isinstance(call, Call) and call.operands else None
+        if method and isinstance(receiver, Place) and not receiver.steps:
+            given = [(one, line) for one in before if isinstance(line := body.line(one), Assign) and not line.place.steps]
+            lent = {line.source.local for _, line in given if line.place.local == receiver.local and reborrows(line)}
+            yield from ((one, method) for one, line in given
+                        if line.place.local in {receiver.local, *lent} and not is_constant(line))
+
+
+def is_constant(line: Assign) -> bool:
+    """Whether the value is a constant, or a cast of one."""
+    return line.kind in ("use", "cast") and isinstance(line.operands[0], Constant)
+
+
+def reborrows(line: Assign) -> bool:
+    """Whether a line borrows anew all that a variable leads to."""
+    return line.kind in ("ref", "mut") and line.source.words[1:] == DEREF
 
 
 def locations(text: str) -> Iterator[Location]:
@@ -123,8 +152,3 @@ def locations(text: str) -> Iterator[Location]:
     for run in RUN.finditer(text):
         for index in range(int(run[2]), int(run[3] or run[2]) + 1):
             yield Location(int(run[1]), index)
-
-
-# The terminators behind which the caller goes on: it has the result, catches a panic, or drops a
-# coroutine. (`return`; `resume` ends each way on which a panic goes out of the function.)
-LEAVING = ("return", "resume", "coroutine_drop")

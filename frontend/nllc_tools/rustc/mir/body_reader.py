@@ -7,8 +7,9 @@ from typing import NamedTuple, Optional
 
 from nllc_tools.base.refusal import Refusal
 from nllc_tools.rustc.mir.body import Body, Live, Local, Reason, Statement
-from nllc_tools.rustc.mir.debug_places import closing, read_place
+from nllc_tools.rustc.mir.scanner import closing_of
 from nllc_tools.rustc.mir.spans import Span, span_of
+from nllc_tools.rustc.mir.statement_reader import read_place
 from nllc_tools.rustc.tables import Location
 
 TITLE = re.compile(r"// MIR for `(.*)` 0 nll")
@@ -133,7 +134,7 @@ def read_header(body: Body, line: str) -> None:
     body.is_function = is_function(line)
     if begin < 0 or not body.is_function:
         return
-    inside = line[begin + 1:closing(line, begin)]
+    inside = line[begin + 1:closing_of(line, begin)]
     found = list(PARAMETER.finditer(inside))
     for this, following in zip(found, [*found[1:], None]):
         end = following.start() if following else len(inside)
@@ -195,5 +196,5 @@ def read_declaration(body: Body, code: str, span: Optional[Span]) -> None:
         length = span.end - span.column if span else 0
         local.is_mutable |= length == len("mut self") if found[1] == "self" else length > len(found[1])
     elif found := CAPTURED.fullmatch(code):
-        if read := read_place(found[2]):
-            body.captured.setdefault(read.place, found[1].replace("__", "."))
+        if place := read_place(found[2]):
+            body.captured.setdefault(place.words, found[1].replace("__", "."))

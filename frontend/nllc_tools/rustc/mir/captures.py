@@ -9,17 +9,13 @@ from functools import lru_cache
 from typing import Collection, Iterator, NamedTuple, Optional
 
 from nllc_tools.rustc.dumps import Dump
-from nllc_tools.rustc.mir.body import Body, Statement
+from nllc_tools.rustc.mir.body import Body
 from nllc_tools.rustc.mir.body_reader import read_body
-from nllc_tools.rustc.mir.debug_places import Place, read_place
 from nllc_tools.rustc.mir.spans import Span
+from nllc_tools.rustc.mir.statements import Assign, Place, places_of, target_of
 from nllc_tools.rustc.tables import Location
 
-MADE = re.compile(r" = (\{(?:closure|coroutine|async|gen)[^{}]*\})(?: \{(.*)\})?")
-OPERAND = re.compile(r"(?:^ ?|, )\w+: (?:copy|move) ")
 BEGIN = re.compile(r"@.*?:(\d+):(\d+): \d+:\d+")
-BORROW = re.compile(r"_(\d+) = &(?:mut )?\(*\**_(\d+)\b")
-TARGET = re.compile(r"(_\d+) = ")
 TAIL = ".-------.nll.0.mir"
 
 
@@ -40,6 +36,27 @@ class Capture(NamedTuple):
     is_async: bool = False
 
 
+class Made(NamedTuple):
+    """A closure or coroutine that a statement makes, and where that stands."""
+
+    closure: Assign
+    span: Optional[Span]
+
+    def takes(self) -> list[Optional[Place]]:
+        """The places that it takes; None for what is no place."""
+        return [one if isinstance(one, Place) else None for one in self.closure.operands]
+
+    def index_of(self, place: Place) -> Optional[int]:
+        """Which of what it takes is a place."""
+        return next((index for index, one in enumerate(self.takes()) if one is not None and one.is_same(place)), None)
+
+    def home_in(self, span: Span) -> Span:
+        """Where it begins in a place, which is behind the parentheses around it."""
+        begin = BEGIN.search(self.closure.word)
+        spot = (int(begin[1]), int(begin[2])) if begin else span.begin
+        return span._replace(first=spot[0], column=spot[1]) if span.has(spot) else span
+
+
 class Taken(NamedTuple):
     """A statement that takes a variable into a closure or borrows it for one, and the use in there."""
 
@@ -48,50 +65,42 @@ class Taken(NamedTuple):
     use: Optional[Span]
 
 
+def made_at(body: Body, location: Location) -> Optional[Made]:
+    """The closure that a statement makes, if it does."""
+    line = body.line(location) if " = {" in body.statements[location].text else None
+    is_closure = isinstance(line, Assign) and line.kind == "make" and line.type is None
+    return Made(line, body.statements[location].span) if is_closure and isinstance(line, Assign) else None
+
+
 def capture_of(dump: Dump, body: Body, variable: Optional[int], uses: Collection[Location]) -> Optional[Capture]:
     """The capture for which the borrow in a variable is made; None where it is made for no closure."""
     for location in uses:
-        if variable is not None and body.locals[variable].name is None and MADE.search(body.statements[location].text):
-            return capture_at(dump.mir, body.statements[location], Place(variable))
+        if variable is not None and body.locals[variable].name is None and (made := made_at(body, location)):
+            return capture_at(dump.mir, made, Place(variable))
     return None
 
 
 def captures(dump: Dump, body: Body) -> Iterator[Taken]:
     """Each statement that takes a variable into a closure or borrows it for one, with the use in there."""
-    borrows = {int(found[1]): (location, int(found[2])) for location, said in body.statements.items()
-               if (found := BORROW.match(said.text))}
-    for location, said in sorted(body.statements.items()):
-        made = MADE.search(said.text)
-        for taken in operands(made[2]) if made else ():
-            if taken:
-                use = capture_at(dump.mir, said, taken).use
-                yield Taken(location, taken.local, use)
-                if taken.local in borrows:
-                    yield Taken(*borrows[taken.local], use)
+    closures = {location: made for location in sorted(body.statements) if (made := made_at(body, location))}
+    borrows = {line.place.local: (location, line.source.local) for location in (body.statements if closures else ())
+               if isinstance(line := body.line(location), Assign) and is_plain_borrow(line)}
+    for location, made in closures.items():
+        for taken in filter(None, made.takes()):
+            use = capture_at(dump.mir, made, taken).use
+            yield Taken(location, taken.local, use)
+            if taken.local in borrows:
+                yield Taken(*borrows[taken.local], use)
 
 
-def operands(inside: Optional[str]) -> list[Optional[Place]]:
-    """The places that a closure takes, by what stands between its braces; None for what is no place."""
-    read = [read_place(inside, one.end()) for one in OPERAND.finditer(inside)] if inside else []
-    return [one and one.place for one in read]
+def is_plain_borrow(line: Assign) -> bool:
+    """Whether a line borrows into a variable, and through no more than a dereference of a variable."""
+    return line.kind in ("ref", "mut") and not line.place.steps and "*" not in line.source.words[2:]
 
 
-def capture_at(mir: str, said: Statement, place: Place) -> Capture:
-    """What the closure that a statement makes takes by an operand."""
-    made = MADE.search(said.text)
-    assert made
-    index = next((number for number, one in enumerate(operands(made[2])) if one == place), None)
-    return Capture(home_of(made[1], said.span), *use_inside(mir, made[1], index))
-
-
-def home_of(closure: str, span: Optional[Span]) -> Optional[Span]:
-    """Where the closure begins, which is behind the parentheses around it."""
-    begin = BEGIN.search(closure)
-    if not begin or span is None:
-        return span
-    first, column = int(begin[1]), int(begin[2])
-    is_inside = (span.first, span.column) <= (first, column) < (span.last, span.end)
-    return span._replace(first=first, column=column) if is_inside else span
+def capture_at(mir: str, made: Made, place: Place) -> Capture:
+    """What a closure takes by an operand."""
+    return Capture(made.span and made.home_in(made.span), *use_inside(mir, made.closure.word, made.index_of(place)))
 
 
 def use_inside(mir: str, closure: str, index: Optional[int]) -> Use:
@@ -101,11 +110,18 @@ def use_inside(mir: str, closure: str, index: Optional[int]) -> Use:
         own = inner.locals.get(1)
         is_async = own is not None and closure.replace("{", "{async ", 1) in own.type
         if own and (closure in own.type or is_async) and os.path.isfile(path) and index is not None:
-            field = rf"\((?:\(\*_1\)|_1)\.{index}: "
-            named = [said for _, said in sorted(inner.statements.items()) if re.search(field, said.text)]
-            uses = [deeper(path, inner, said, rf"\(\*\(\*{field}") for said in named]
+            named = {one: found for one in sorted(inner.statements) if (found := list(behind_field(inner, one, index)))}
+            uses = [deeper(path, inner, one, any(found)) for one, found in named.items()]
             return Use(uses[0].span, all(use.is_behind for use in uses), is_async) if uses else Use(is_of_async=is_async)
     return Use()
+
+
+def behind_field(closure: Body, location: Location, index: int) -> Iterator[bool]:
+    """Of each place of a line that goes through the closure's field whether it goes on behind a reference to a reference."""
+    for place in places_of(closure.line(location)) if f".{index}: " in closure.statements[location].text else ():
+        own, *behind = place.words[2 if place.words[1:2] == ("*",) else 1:] or ("",)
+        if place.local == 1 and own == str(index):
+            yield behind[:2] == ["*", "*"]
 
 
 def closures_of(mir: str) -> Iterator[str]:
@@ -124,11 +140,15 @@ def dumps_in(folder: str) -> list[str]:
     return sorted(name for name in os.listdir(folder) if name.endswith(TAIL))
 
 
-def deeper(mir: str, body: Body, said: Statement, behind: str) -> Use:
+def closure_with(body: Body, place: Place) -> Optional[Made]:
+    """The first closure that takes a place."""
+    all_made = (made_at(body, location) for location in body.statements)
+    return next((made for made in all_made if made and made.index_of(place) is not None), None)
+
+
+def deeper(mir: str, body: Body, location: Location, is_behind: bool) -> Use:
     """Where a statement of a closure stands; where it borrows for a closure inside, the use in there."""
-    use = Capture(None, None, False)
-    if target := TARGET.match(said.text):
-        taken = re.compile(rf"\b(?:move|copy) {target[1]}\b")
-        made = next((one for one in body.statements.values() if MADE.search(one.text) and taken.search(one.text)), None)
-        use = capture_at(mir, made, Place(int(target[1][1:]))) if made else use
-    return Use(use.use or said.span, use.is_behind or re.search(behind, said.text) is not None)
+    target = target_of(body.line(location))
+    there = closure_with(body, target) if target is not None and not target.steps else None
+    use = capture_at(mir, there, target) if there and target is not None else Capture(None, None, False)
+    return Use(use.use or body.statements[location].span, use.is_behind or is_behind)

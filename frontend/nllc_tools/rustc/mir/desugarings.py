@@ -6,11 +6,10 @@ from dataclasses import dataclass, field
 from functools import lru_cache
 
 from nllc_tools.rustc.mir.body import Reason
-from nllc_tools.rustc.mir.spans import Span
+from nllc_tools.rustc.mir.scanner import closing_of
+from nllc_tools.rustc.mir.spans import Span, Spot
 
-Spot = tuple[int, int]      # a line and a column
 MACRO = re.compile(r"\bmacro_rules!\s*\w+\s*[{(]")
-OPENING, CLOSING = "({[", ")}]"
 
 
 @dataclass(frozen=True)
@@ -30,7 +29,7 @@ class Desugarings:
 
     def is_of_macro(self, span: Span) -> bool:
         """Whether a place of the file is in a macro's declaration."""
-        return any(begin <= (span.first, span.column) < end for begin, end in self.macros)
+        return any(begin <= span.begin < end for begin, end in self.macros)
 
     def ends(self, span: Span) -> str:
         """The last character of a place."""
@@ -64,13 +63,3 @@ def declarations(text: str) -> list[tuple[Spot, Spot]]:
         return line + 1, at - (ends[line - 1] if line else -1)
 
     return [(spot(found.start()), spot(closing_of(text, found.end() - 1))) for found in MACRO.finditer(text)]
-
-
-def closing_of(text: str, begin: int) -> int:
-    """Where the bracket that opens there is closed; the text's end if it isn't."""
-    depth = 0
-    for end in range(begin, len(text)):
-        depth += (text[end] in OPENING) - (text[end] in CLOSING)
-        if depth == 0:
-            return end
-    return len(text)

@@ -12,8 +12,7 @@ from nllc_tools.rustc.dumps import Dump
 from nllc_tools.rustc.mir.body import Body, Reason
 from nllc_tools.rustc.mir.body_reader import read_body
 from nllc_tools.rustc.mir.constants import Known, captures, named_constants, with_types
-from nllc_tools.rustc.mir.statement_reader import read_statement, read_terminator
-from nllc_tools.rustc.mir.statements import Assign, Call, Constant, Drop, Jump, Line, Operand, Place, Read, Storage
+from nllc_tools.rustc.mir.statements import Assign, Constant, Drop, Foreign, Line, Storage, operands_of, places_of
 from nllc_tools.rustc.mir.type_reader import read_type
 from nllc_tools.rustc.mir.types import STATIC, Type
 from nllc_tools.rustc.tables import Location, Reader as Tables
@@ -102,14 +101,14 @@ def refuse_unprinted(function: Function, counts: dict[Location, int]) -> None:
 
 def read_lines(body: Body, constants: Known) -> dict[Location, Line]:
     """Each statement and terminator, with the types of its constants."""
-    last: dict[int, int] = {}
-    for location in body.statements:
-        last[location.block] = max(last.get(location.block, 0), location.index)
     lines: dict[Location, Line] = {}
-    for location, (text, _, _) in body.statements.items():
-        lines[location] = read_terminator(text) if last[location.block] == location.index else read_statement(text)
-    for location, known in constants.items():
-        lines[location] = with_types(lines[location], known)
+    for location in body.statements:
+        line = body.line(location)
+        if isinstance(line, Foreign):
+            raise line.reason
+        if isinstance(line, Drop) and line.is_of_coroutine:
+            raise NotSaid("a coroutine")
+        lines[location] = with_types(line, constants[location]) if location in constants else line
     return lines
 
 
@@ -138,7 +137,7 @@ def visible_regions(function: Function) -> set[int]:
 def written_regions(line: Line) -> Iterator[int]:
     """The regions that a line writes, save those of the types of places."""
     if isinstance(line, Assign):
-        if line.kind in ("ref", "mut", "fake"):
+        if line.is_borrow() and isinstance(line.region, int):
             yield line.region
         if line.type is not None:
             yield from line.type.regions()
@@ -147,24 +146,8 @@ def written_regions(line: Line) -> Iterator[int]:
             yield from constant.type.regions()
 
 
-def operands_of(line: Line) -> Iterator[Operand]:
-    if isinstance(line, (Assign, Call)):
-        yield from line.operands
-    if isinstance(line, Call):
-        yield line.function
-    if isinstance(line, Jump) and line.operand is not None:
-        yield line.operand
-
-
 def constants_of(line: Line) -> Iterator[Constant]:
     return (operand for operand in operands_of(line) if isinstance(operand, Constant))
-
-
-def places_of(line: Line) -> Iterator[Place]:
-    """The places of a line, its target first."""
-    if isinstance(line, (Assign, Call, Read, Drop)):
-        yield line.place
-    yield from (operand for operand in operands_of(line) if isinstance(operand, Place))
 
 
 class Paths:

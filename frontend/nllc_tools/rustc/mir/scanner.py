@@ -60,3 +60,13 @@ class Scanner:
         begin = self.at
         self.skip(until)
         return self.text[begin:self.at]
+
+
+def closing_of(text: str, begin: int) -> int:
+    """Where the bracket that opens there is closed; the text's end if it isn't."""
+    depth = 0
+    for end in range(begin, len(text)):
+        depth += (text[end] in "({[") - (text[end] in ")}]")
+        if depth == 0:
+            return end
+    return len(text)

@@ -4,24 +4,26 @@ import re
 from functools import lru_cache
 from typing import Optional
 
-from nllc_tools.rustc.mir.statements import (Assign, Call, Constant, Drop, Jump, Leave, Nothing, Operand, Place, Read,
-                                             Statement, Step, Storage, Terminator)
-from nllc_tools.rustc.mir.type_reader import Reader, simplified
+from nllc_tools.rustc.mir.statements import (Assign, Call, Constant, Drop, Foreign, Jump, Leave, Line, Nothing, Operand, Place,
+                                             Read, Statement, Step, Storage, Terminator)
+from nllc_tools.rustc.mir.type_reader import CLOSURE, Reader, simplified
 from nllc_tools.rustc.unsaid import NotSaid
 
 LOCAL = re.compile(r"_(\d+)")
-BLOCK = re.compile(r"bb(\d+)")
 FIELD = re.compile(r"\.(\d+): ")
-INDEX = re.compile(r"\[(?:_(\d+)|-?\d+ of \d+|\d*:-?\d*)\]")
+INDEX = re.compile(r"\[(?:(_\d+|-?\d+ of \d+)|\d*:-?\d*|\d+\.\.\d+)\]")
+NAME = re.compile(r"[\w#]+: ")
 VARIANT = re.compile(r" as ([\w#]+)\)")
 PAIR = re.compile(r"(?:Add|Sub|Mul|Div|Rem|BitXor|BitAnd|BitOr|Shl|Shr|Eq|Lt|Le|Ne|Ge|Gt|Cmp|Offset)"
                   r"(?:WithOverflow|Unchecked)?\(|(?:Not|Neg|PtrMetadata|Len|discriminant)\(")
-BORROW = re.compile(r"&'\?(\d+) (?:(mut|fake(?: shallow| deep)?) )?")
-RAW = re.compile(r"&raw (const|mut)(?: \(fake\))? ")
+BORROW = re.compile(r"&(?:'\?(\d+) )?(?:(mut|fake(?: shallow| deep)?) )?")
+RAW = re.compile(r"&raw (const|mut)( \(fake\))? ")
 CAST = re.compile(r" \((?:PointerCoercion\((\w+)[^()]*(?:\([^()]*\))?[^()]*\)|(\w+)(?:\([^()]*\))?)\)$")
 FAKE_READ = re.compile(r"FakeRead\(\w+(?:\(\w+\))?, ")
 VALUE = re.compile(r"ConstValue\([A-Za-z]+(?:\([^()]*\)| \{[^{}]*\})?: ")
-OPERAND = ("copy ", "move ", "const ", "ConstValue(", "_")
+QUOTED = re.compile(r'"(?:[^"\\]|\\.)*"|b?\'(?:[^\'\\]|\\.[^\']*)\'')
+USED = re.compile(r"\b(?:move|copy) ")
+OPERAND = ("copy ", "move ", "const ", "ConstValue(")
 NOTHING = ("Coverage", "nop", "ConstEvalCounter", "BackwardIncompatibleDropHint", "assume(")
 
 
@@ -38,8 +40,7 @@ class Lines(Reader):
 
     def indexed(self, place: Place) -> Place:
         while found := self.match(INDEX):
-            kind = "index" if ":" not in found[0] else "part"
-            place = Place(place.local, (*place.steps, Step(kind)))
+            place = place.onward(Step("index" if found[1] else "part"))
         return place
 
     def bracketed(self) -> Place:
@@ -47,28 +48,28 @@ class Lines(Reader):
         if self.takes("*"):
             place = self.place()
             self.must(")")
-            return self.indexed(Place(place.local, (*place.steps, Step("deref"))))
+            return self.indexed(place.onward(Step("deref")))
         place = self.place()
         if found := self.match(VARIANT):
-            return Place(place.local, (*place.steps, Step("variant", found[1])))
+            return place.onward(Step("variant", found[1]))
         found = self.match(FIELD)
         if not found:
             raise self.strange()
         type = self.type()
         self.must(")")
-        *before, last = place.steps or (None,)
-        if last is not None and last.kind == "variant":
-            return self.indexed(Place(place.local, (*before, Step("field", last.variant, int(found[1]), type))))
-        return self.indexed(Place(place.local, (*place.steps, Step("field", "", int(found[1]), type))))
+        variant = ""
+        if place.steps and place.steps[-1].kind == "variant":
+            place, variant = Place(place.local, place.steps[:-1]), place.steps[-1].variant
+        return self.indexed(place.onward(Step("field", variant, int(found[1]), type)))
 
     def operand(self) -> Operand:
         if self.takes("move "):
             return self.place()._replace(is_moved=True)
-        if self.takes("copy ") or self.text.startswith("_", self.at):
+        if self.takes("copy ") or LOCAL.match(self.text, self.at):
             return self.place()
-        if not self.takes("const ") and not self.text.startswith("ConstValue(", self.at):
-            raise self.strange()
-        return self.constant()
+        if self.takes("const ") or self.text.startswith("ConstValue(", self.at):
+            return self.constant()
+        return Constant(self.path().name)
 
     def constant(self) -> Constant:
         """`ConstValue(..: T)`, a literal, or the name of a constant."""
@@ -82,28 +83,26 @@ class Lines(Reader):
         return Constant(text, None)
 
     def operands(self, closer: str) -> tuple[Operand, ...]:
-        found = []
+        found: list[Operand] = []
         while not self.takes(closer):
-            begin = self.at
-            named = re.compile(r"[\w#]+: ").match(self.text, self.at)
-            if named:
-                self.at = named.end()
+            self.match(NAME)
             found.append(self.operand())
-            if self.at == begin:
-                raise self.strange()
-            self.takes(", ") or self.takes(",") or self.takes(" ")
+            if not self.takes(", ") and not self.takes(","):
+                self.takes(" ")
+                self.must(closer)
+                break
         return tuple(found)
 
     def value(self, place: Place) -> Assign:
         """What stands behind `PLACE = `."""
-        if found := self.match(BORROW):
-            kind = {"mut": "mut", None: "ref"}.get(found[2], "fake")
-            return Assign(place, kind, (self.place(),), region=int(found[1]))
         if self.takes("&/*tls*/ "):
             self.at = len(self.text)
             return Assign(place, "static")
         if found := self.match(RAW):
-            return Assign(place, "raw", (self.place(),), word=found[1])
+            return Assign(place, "raw", (self.place(),), word="fake" if found[2] else found[1])
+        if found := self.match(BORROW):
+            kind = {"mut": "mut", None: "ref"}.get(found[2], "fake")
+            return Assign(place, kind, (self.place(),), region=int(found[1]) if found[1] else "^")
         if found := self.match(PAIR):
             return self.pair(place, found[0])
         if self.text.startswith(OPERAND, self.at):
@@ -112,10 +111,8 @@ class Lines(Reader):
             return Assign(place, "tuple", self.operands(")"))
         if self.takes("["):
             return self.array(place)
-        if self.takes("{closure@") or self.takes("{coroutine@"):
-            self.skip("}")
-            self.must("}")
-            return Assign(place, "make", self.operands("}") if self.takes(" { ") else ())
+        if found := self.match(CLOSURE):
+            return Assign(place, "make", self.operands("}") if self.takes(" { ") else (), word=found[0])
         if self.takes("CopyForDeref("):
             return Assign(place, "use", self.operands(")"))
         return self.made(place)
@@ -129,13 +126,38 @@ class Lines(Reader):
 
     def used(self, place: Place) -> Assign:
         operand = self.operand()
-        if not self.takes(" as "):
-            return Assign(place, "use", (operand,))
+        return self.cast(place, operand) if self.takes(" as ") else Assign(place, "use", (operand,))
+
+    def cast(self, place: Place, operand: Operand) -> Assign:
         type = self.type()
         cast = self.match(CAST)
         if not cast:
             raise self.strange()
         return Assign(place, "cast", (operand,), type, cast[1] or cast[2])
+
+    def asserted(self) -> tuple[Operand, ...]:
+        """What `assert(` looks at: the condition, and what its message tells."""
+        self.takes("!")
+        condition = self.operand()
+        return (condition, *(self.operands(")") if self.takes(', "", ') else ()))
+
+    def used_by_assembler(self) -> tuple[Operand, ...]:
+        found = []
+        for used in USED.finditer(self.text):
+            self.at = used.start()
+            found.append(self.operand())
+        return tuple(found)
+
+    def called(self) -> Operand:
+        """What is called, with the bracket behind it: an operand, or the name of a function."""
+        begin = self.at
+        if self.text.startswith(OPERAND, begin):
+            function = self.operand()
+        else:
+            self.skip("(")
+            function = Constant(self.text[begin:self.at])
+        self.must("(")
+        return function
 
     def array(self, place: Place) -> Assign:
         if self.takes("]"):
@@ -158,9 +180,19 @@ class Lines(Reader):
             found = self.operands(")")
         elif self.takes(" { "):
             found = self.operands("}")
+        elif self.takes(" as "):
+            return self.cast(place, Constant(type.name))
         else:
             found = ()
         return Assign(place, "make", found, type)
+
+
+def read_place(text: str) -> Optional[Place]:
+    """The place of a text; None where it isn't understood."""
+    try:
+        return Lines(simplified(text)).place()
+    except NotSaid:
+        return None
 
 
 @lru_cache(4096)
@@ -171,7 +203,7 @@ def read_statement(text: str) -> Statement:
             return Storage(is_live, int(text[len(word):-1]))
     if text.startswith(NOTHING):
         return Nothing()
-    reader = Lines(simplified(text))
+    reader = Lines(simplified(QUOTED.sub('""', text)))
     if reader.match(FAKE_READ) or reader.takes("PlaceMention(") or reader.takes("AscribeUserType("):
         return Read(reader.place())
     if not text.startswith(("_", "(")):
@@ -214,31 +246,32 @@ def read_terminator(text: str) -> Terminator:
         return Leave(True)
     if text.startswith(("unreachable", "abort", "terminate")):
         return Leave(False)
-    head, blocks = targets_of(text)
-    if "resume" in blocks or "drop" in blocks:    # where it waits, and where it is dropped meanwhile
-        raise NotSaid("a coroutine")
+    head, blocks = targets_of(QUOTED.sub('""', text))
     reader = Lines(simplified(head))
     if head in ("goto", "falseEdge", "falseUnwind"):
         return Jump(there(blocks))
     if reader.takes("switchInt("):
-        return Jump(there(blocks), reader.operand())
+        return Jump(there(blocks), (reader.operand(),))
     if reader.takes("assert("):
-        reader.takes("!")
-        return Jump(there(blocks), reader.operand())
+        return Jump(there(blocks), reader.asserted())
     if reader.takes("drop("):
-        return Drop(reader.place(), there(blocks))
+        return Drop(reader.place(), there(blocks), "drop" in blocks)
     if head.startswith("asm!"):
-        raise NotSaid("assembler")
+        return Foreign(NotSaid("assembler"), reader.used_by_assembler())
     if not head.startswith(("_", "(")):
         raise NotSaid("a terminator that isn't understood", head[:40])
     place = reader.place()
     reader.must(" = ")
-    return called(place, reader, blocks)
-
-
-def called(place: Place, reader: Lines, blocks: dict[str, Optional[int]]) -> Call:
-    function = reader.operand()
-    reader.must("(")
-    operands = reader.operands(")")
+    if reader.takes("yield("):
+        return Foreign(NotSaid("a coroutine"), reader.operands(")"), place, blocks["resume"])
+    found = Call(place, reader.called(), reader.operands(")"), blocks.get("return"), blocks.get("unwind"))
     reader.end()
-    return Call(place, function, operands, blocks.get("return"), blocks.get("unwind"))
+    return found
+
+
+def read_line(text: str, is_terminator: bool) -> Line:
+    """The statement or terminator of a text; of one that isn't understood, why."""
+    try:
+        return read_terminator(text) if is_terminator else read_statement(text)
+    except NotSaid as reason:
+        return Foreign(reason)

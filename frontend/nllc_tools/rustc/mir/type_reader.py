@@ -1,4 +1,4 @@
-"""Reads types as rustc prints them with `-Zverbose-internals`."""
+"""Reads types as rustc prints them, with `-Zverbose-internals` with all their regions."""
 
 import re
 from functools import lru_cache
@@ -6,15 +6,16 @@ from typing import Iterator, Optional
 
 from nllc_tools.rustc.mir.scanner import Scanner
 from nllc_tools.rustc.mir.types import PLAIN, STATIC, UNIT, Part, Region, Type
+from nllc_tools.rustc.unsaid import NotSaid
 
 REGION = re.compile(r"'\?(\d+)|'(\^[\d_]+)(?:\.Named)?|'\{erased\}|'([A-Za-z_]\w*)(?:/#\d+)?")
 DEFINITION = re.compile(r"\(DefId\([^()]*\)\)")
 BINDER = re.compile(r"for<[^<>]*> ")
 QUALIFIER = re.compile(r"(?:safe |unsafe |async |const |extern \"[^\"]*\" |#\[[^\]]*\] )+")
 WORD = re.compile(r"[A-Za-z_]\w*(?:/?#\d+)?")
+CLOSURE = re.compile(r"\{[a-z -]+@[^{}]*\}")
 BRACED = re.compile(r"\{[a-z_ ]+(?:#\d+)?\}|\{closure@[^{}]*\}")
 CONSTANT = re.compile(r"-?\d\w*|true\b|false\b|'.'|\{const|ValTree\(|ConstValue\(|Const\b|Unevaluated|Expr\(|\{\w+(?:::|/)")
-CLOSERS = {"(": ")", "[": "]", "{": "}", "<": ">"}
 
 
 def simplified(text: str) -> str:
@@ -29,6 +30,14 @@ def read_type(text: str) -> Type:
     found = reader.type()
     reader.end()
     return found
+
+
+def type_or_plain(text: str) -> Type:
+    """The type of a text; one without parts where it isn't understood."""
+    try:
+        return read_type(text)
+    except NotSaid:
+        return PLAIN
 
 
 class Reader(Scanner):
@@ -163,33 +172,32 @@ class Reader(Scanner):
         return Type("alias", name, parts)
 
     def closure(self) -> Type:
-        """`{path::{closure#0} closure_kind_ty=i16 .. upvar_tys=(T, ..)}`; that of a coroutine has other words."""
+        """`{path::{closure#0} closure_kind_ty=i16 .. upvar_tys=(T, ..)}`; that of a coroutine has other words.
+
+        Where regions aren't printed it is `{closure@FILE:1:2: 3:4}`.
+        """
+        if found := self.match(CLOSURE):
+            return Type("closure", found[0])
         self.must("{")
         self.takes("static ")
         path = self.path()
-        upvars, signature, form = UNIT, None, "coroutine"
+        upvars, form = UNIT, "coroutine"
+        signature: tuple[Type, ...] = ()
         while self.takes(" "):
             word = self.match(WORD)
             if not word or not self.takes("="):
                 raise self.strange()
             if word[0] == "upvar_tys":
-                upvars = self.upvars()
+                taken = self.type()
+                upvars = taken if taken.form == "tuple" else Type("tuple", "", (taken,))    # of one the brackets are kept
             elif word[0] == "closure_sig_as_fn_ptr_ty":
-                form, signature = "closure", self.type()
+                form, signature = "closure", (self.type(),)
             elif word[0] == "closure_kind_ty":
                 self.type()
             else:
                 self.skip(" }")
         self.must("}")
-        own = [part for part in (signature,) if part is not None]
-        return Type(form, path.name, (upvars, *path.parts, *own))
-
-    def upvars(self) -> Type:
-        """The types of what is captured; of one alone the brackets are kept."""
-        begin = self.at
-        found = self.type()
-        is_one = self.text[begin] == "(" and found.form != "tuple"
-        return found if found.form == "tuple" and not is_one else Type("tuple", "", (found,))
+        return Type(form, path.name, (upvars, *path.parts, *signature))
 
     def path(self) -> Type:
         """`a::b<'?1, T>::c`, `<T as Trait>::Name<..>`; the parts are all arguments in order."""
@@ -261,7 +269,7 @@ class Reader(Scanner):
         self.at += 1
         inside = self.skipped("}")
         self.at = begin
-        return "upvar_tys=" not in inside
+        return "upvar_tys=" not in inside and "@" not in inside
 
     def arguments(self, closer: str) -> Iterator[Part]:
         """Regions and types between brackets; `Name = ` before a type, and constants, are skipped."""

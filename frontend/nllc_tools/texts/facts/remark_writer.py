@@ -17,9 +17,9 @@ from nllc_tools.model.typed_function import TypedFunction
 from nllc_tools.rustc.errors import INVOCATION, Error, Label
 from nllc_tools.rustc.mir.body import Local, methods_on_results
 from nllc_tools.rustc.mir.captures import captures
-from nllc_tools.rustc.mir.debug_places import Place
 from nllc_tools.rustc.mir.desugarings import desugarings_of
 from nllc_tools.rustc.mir.spans import Span
+from nllc_tools.rustc.mir.statements import Place
 from nllc_tools.rustc.tables import Location
 
 
@@ -68,13 +68,13 @@ class RemarkWriter:
         """`list.*.0`: a variable, by its name if it has one, and the steps from it."""
         root = self.body.locals.get(place.local)
         name = root.name if root and root.name else f"_{place.local}"
-        steps = [step.replace(" ", "-") for step in place.steps]
+        steps = [step.replace(" ", "-") for step in place.words[1:]]
         return ".".join([name, *steps]) + ("'" if place.has_lifetimes else "")
 
     def loan(self, loan: Loan) -> str:
         """`'r4 at 5, 8:16-8:22, mut of list`, and where else it stands."""
         what = self.body.name_of(loan.place) or "a temporary"
-        deref = "*" if "*" in loan.place.steps else ""
+        deref = "*" if "*" in loan.place.words else ""
         kind = "unique" if loan.is_unique else loan.kind
         by = ", by a closure" if loan.is_capture else ""
         home = f", {self.place(loan.home)}" if loan.home else ""

@@ -28,7 +28,7 @@ class Calls(Parts):
         else:
             type = line.function.type or PLAIN
             word = word_of(type.name)
-        signature = type.parts[1] if type.form == "function" else type
+        signature = type.types[1] if type.form == "function" else type
         if signature.form != "fn":
             raise NotSaid("a call of what has no signature", type.name)
         self.signed(line, paths, signature, operands, word, exits)
@@ -38,7 +38,7 @@ class Calls(Parts):
         """A call by its signature, made fresh."""
         new: dict[str, int] = {}
         *inputs, output = (instantiate(part, 0, lambda bound: new.get(bound) or self.bound(new, bound))
-                           for part in signature.parts)
+                           for part in signature.types)
         where = paths.bounds()
         if len(inputs) > len(line.operands):
             raise NotSaid("a call of other arguments than its signature's", word)

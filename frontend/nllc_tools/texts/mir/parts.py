@@ -2,10 +2,10 @@
 
 from typing import Iterable, Iterator, Optional
 
-from nllc_tools.model.types.definitions import Definitions, behind, is_box
+from nllc_tools.model.types.definitions import Definitions, behind
 from nllc_tools.model.types.structs import DISCRIMINANT, Field, Structs, fields_of, step_of
-from nllc_tools.rustc.mir.function import Function, places_of
-from nllc_tools.rustc.mir.statements import Assign, Operand, Place
+from nllc_tools.rustc.mir.function import Function
+from nllc_tools.rustc.mir.statements import Assign, Operand, Place, places_of
 from nllc_tools.rustc.mir.types import PLAIN, STATIC, Region, Type
 from nllc_tools.rustc.tables import Location
 from nllc_tools.rustc.unsaid import NotSaid
@@ -34,8 +34,8 @@ class Parts:
     def discriminants(self) -> Iterator[Field]:
         for line in self.function.lines.values():
             if isinstance(line, Assign) and line.word == "discriminant":
-                type = self.function.locals[line.operands[0].local]
-                for step in line.operands[0].steps:
+                type = self.function.locals[line.source.local]
+                for step in line.source.steps:
                     type = behind(self.definitions, type, step) or PLAIN
                 yield Field(type.shape(), *DISCRIMINANT, None)
 
@@ -74,7 +74,7 @@ class Parts:
             following = behind(self.definitions, type, step)
             if following is None:
                 raise NotSaid("a place whose type isn't known", f"{step.kind} of {type.form} {type.name}")
-            is_pointer = step.kind == "deref" and not is_box(type)
+            is_pointer = step.kind == "deref" and not type.is_box()
             if is_pointer:
                 derefs.append(type)
             if self.structs.is_int(type):

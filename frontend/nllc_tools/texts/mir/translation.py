@@ -77,10 +77,10 @@ class Translator(Calls):
     def jump(self, line: Jump) -> None:
         if not line.blocks:
             self.add("stop", ())
-        elif line.operand is None and len(line.blocks) == 1:
+        elif not line.operands and len(line.blocks) == 1:
             self.add("goto %s", line.blocks)
         else:
-            words, type = self.operand(line.operand) if line.operand is not None else ("const", PLAIN)
+            words, type = self.operand(line.operands[0]) if line.operands else ("const", PLAIN)
             if words is None or not self.structs.is_int(type):
                 raise NotSaid("a branch by what isn't a number", type.name)
             self.add(f"switch {words}{' %s' * len(line.blocks)}", line.blocks)
@@ -135,7 +135,7 @@ class Translator(Calls):
             self.call(line.place, "copy", [(operand, type)], type)
 
     def borrow(self, line: Assign, paths: Paths) -> None:
-        borrowed, target = self.walk(line.operands[0]), self.walk(line.place)
+        borrowed, target = self.walk(line.source), self.walk(line.place)
         mut = "mut " if line.kind == "mut" else ""
         type = Type("mut" if mut else "ref", "", (line.region, borrowed.type))
         if not self.fits(type, target.type):
@@ -147,7 +147,7 @@ class Translator(Calls):
         self.approximate("a borrow by a call, with what it rests on")
         self.reborrow(line, borrowed, type, where)
 
-    def reborrow(self, line: Assign, borrowed: Walked, type: Type, where: set[tuple[int, Region]]) -> None:
+    def reborrow(self, line: Assign, borrowed: Walked, type: Type, where: set[tuple[Region, Region]]) -> None:
         target = self.walk(line.place)
         if target.text is None:
             raise NotSaid("a borrow into a place that the profile can't write")
@@ -161,9 +161,9 @@ class Translator(Calls):
         self.call(line.place, "static", [], self.walk(line.place).type.shape())
 
     def raw(self, line: Assign, paths: Paths) -> None:
-        pointed = self.walk(line.operands[0])
+        pointed = self.walk(line.source)
         form = "mut pointer" if line.word == "mut" else "pointer"
-        self.call(line.place, "raw", [(line.operands[0], pointed.type)], Type(form, "", (pointed.type,)))
+        self.call(line.place, "raw", [(line.source, pointed.type)], Type(form, "", (pointed.type,)))
 
     def cast(self, line: Assign, paths: Paths) -> None:
         operand, = line.operands
@@ -177,7 +177,7 @@ class Translator(Calls):
     def pair(self, line: Assign, paths: Paths) -> None:
         target = self.walk(line.place)
         if line.word == "discriminant":
-            of = self.walk(line.operands[0])
+            of = self.walk(line.source)
             index = None if of.text is None or self.structs.is_int(of.type) else \
                 self.structs.index(of.type, DISCRIMINANT)
             if of.text is not None and target.text is not None:
@@ -227,7 +227,7 @@ class Translator(Calls):
         if self.structs.is_int(target.type) and target.text:
             self.plain(line, target.text)
             return
-        part = target.type.parts[0]
+        part = target.type.types[0]
         self.call(line.place, "array", [(operand, part) for operand in line.operands], target.type)
 
     def make(self, line: Assign, paths: Paths) -> None:
@@ -239,7 +239,7 @@ class Translator(Calls):
             self.plain(line, target.text)
             return
         if line.type is None:
-            parts = target.type.parts[0].parts if target.type.form in ("closure", "coroutine") else ()
+            parts = target.type.captures
             if len(parts) != len(line.operands):
                 raise NotSaid("types that don't fit", f"a closure, {target.type.form} {target.type.name}")
             self.call(line.place, "closure", list(zip(line.operands, parts)), target.type, paths.bounds() | paths.needs())
@@ -263,11 +263,11 @@ class Translator(Calls):
 COERCIONS = ("Unsize", "ReifyFnPointer", "ClosureFnPointer", "UnsafeFnPointer", "Subtype")
 
 
-def rests_on(derefs: list[Type]) -> Iterator[int]:
+def rests_on(derefs: list[Type]) -> Iterator[Region]:
     """The regions on which a reborrow rests: up to the first shared reference or pointer, from the outside."""
     for type in reversed(derefs):
         if type.form not in ("ref", "mut"):
             return
-        yield type.parts[0]
+        yield type.region
         if type.form == "ref":
             return
