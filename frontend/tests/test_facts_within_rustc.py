@@ -42,15 +42,15 @@ class SameLiveness(unittest.TestCase):
         self.assertGreater(compared, 500)
 
     def compare(self, tables, mir):
-        own, printed, mentioned = defaultdict(set), read_body(mir).live, defaultdict(set)
+        own, printed, mentioned = defaultdict(set), read_body(mir), defaultdict(set)
         for region, location in bases(tables):
             own[region].add(location)
         for sup, sub, spot in tables.subset_base.located:
             mentioned[sup].add(spot.location)
             mentioned[sub].add(spot.location)
-        for region in {*own, *printed.said} - set(tables.universal_region):
-            self.assertLessEqual(own[region], printed.at(region), region)
-            self.assertLessEqual(printed.at(region) - own[region], mentioned[region], region)
+        for region in {*own, *printed.live} - set(tables.universal_region):
+            self.assertLessEqual(own[region], printed.live_at(region), region)
+            self.assertLessEqual(printed.live_at(region) - own[region], mentioned[region], region)
         return sum(map(len, own.values()))
 
 

@@ -14,7 +14,7 @@ from nllc_tools.model.problem import Problem
 from nllc_tools.model.remarks import Remark
 from nllc_tools.model.typed_function import TypedFunction
 from nllc_tools.rustc.dumps import Dump
-from nllc_tools.rustc.mir.function import Function, read_function
+from nllc_tools.rustc.mir.function import Function
 from nllc_tools.rustc.mir.types import STATIC
 from nllc_tools.texts.mir.functions import Made
 from nllc_tools.texts.mir.text import names_of
@@ -26,7 +26,7 @@ STOP = Remark(None, "stop, after a call that never returns")
 
 def problem_by_rules(made: Made, told: Problem) -> Problem:
     """The problem of a MIR text, with what is told of the function."""
-    function, known = read_function(made.dump), class_names(made.dump)
+    function, known = Function(made.dump), class_names(made.dump)
     facts, by = problem_of(os.path.basename(made.dump.mir), made.text.encode())
     number = numbers_of(function)
 

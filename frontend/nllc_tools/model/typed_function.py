@@ -61,5 +61,5 @@ class TypedFunction:
             for region in its:
                 found = self.regions.find(region)
                 if not self.regions.is_universal(found):
-                    live[found].update(self.points.number[location] for location in locations & self.body.live.at(region))
+                    live[found].update(self.points.number[location] for location in locations & self.body.live_at(region))
         return {region: sorted(points) for region, points in sorted(live.items()) if points}

@@ -1,6 +1,6 @@
 """What the lines of functions, and what rustc asks of them, say of structs and enums."""
 
-from typing import Iterator
+from typing import Collection, Iterator
 
 from nllc_tools.model.types.definitions import BACK, BOTH, FORWARD, Evidence, Key, made_type, own_signs, times
 from nllc_tools.rustc.mir.function import Function, Paths
@@ -25,7 +25,7 @@ class Gatherer:
         for local, regions in function.drops.items():
             self.dropped(function.locals[local], regions)
 
-    def dropped(self, type: Type, regions: set[int]) -> None:
+    def dropped(self, type: Type, regions: Collection[int]) -> None:
         """A drop goes through tuples and closures; of others it looks at regions."""
         if type.form in ("tuple", "slice", "closure"):
             for part in type.captures if type.form == "closure" else type.types:

@@ -6,17 +6,20 @@ that the problem itself needs is in the fact tables, save which terminators leav
 
 import re
 from dataclasses import dataclass, field
+from functools import lru_cache
 from itertools import chain
-from typing import Iterator, NamedTuple, Optional, Union
+from typing import Iterator, NamedTuple, Optional, Sequence, Union
 
 from nllc_tools.base.grouping import grouped
-from nllc_tools.rustc.mir.spans import Span
+from nllc_tools.rustc.mir.spans import Span, span_of
 from nllc_tools.rustc.mir.statement_reader import read_line
 from nllc_tools.rustc.mir.statements import Assign, Call, Constant, Foreign, Leave, Line, Place
 from nllc_tools.rustc.mir.type_reader import type_or_plain
 from nllc_tools.rustc.mir.types import Type
 from nllc_tools.rustc.tables import Location
+from nllc_tools.rustc.unsaid import NotSaid
 
+CONSTANT = "+ span: "
 RUN = re.compile(r"bb(\d+)\[(\d+)(?:\.\.=(\d+))?\]")
 DEREF = ("*",)
 
@@ -37,11 +40,16 @@ class Reason(NamedTuple):
 
 
 class Statement(NamedTuple):
-    """A statement or terminator as rustc prints it, and where its first constant stands, such as a function's name."""
+    """A statement or terminator as rustc prints it, and what it remarks below: constants, captures."""
 
     text: str
     span: Optional[Span]
-    constant: Optional[Span] = None
+    remarks: Sequence[str] = ()
+
+    @property
+    def constant(self) -> Optional[Span]:
+        """Where its first constant stands, such as a function's name."""
+        return next((span_of(remark.removeprefix(CONSTANT)) for remark in self.remarks if remark.startswith(CONSTANT)), None)
 
 
 @dataclass
@@ -54,22 +62,9 @@ class Local:
     is_mutable: bool = False
 
 
-class Live:
-    """At which locations a region is live, as the dump says it; what it says of a region is read once that is asked for."""
-
-    def __init__(self, said: dict[int, str]):
-        self.said = said
-        self.read: dict[int, set[Location]] = {}
-
-    def at(self, region: int) -> set[Location]:
-        if region not in self.read:
-            self.read[region] = set(locations(self.said.get(region, "")))
-        return self.read[region]
-
-
 @dataclass
 class Body:
-    """The dump of one function. What is captured is known by the words of its place."""
+    """The dump of one function, and why it can't be taken for whole. What is captured is known by the words of its place."""
 
     path: str
     is_function: bool = False
@@ -79,9 +74,14 @@ class Body:
     external: set[int] = field(default_factory=set)
     reasons: list[Reason] = field(default_factory=list)
     needs: list[tuple[int, int]] = field(default_factory=list)
-    live: Live = field(default_factory=lambda: Live({}))
+    live: dict[int, str] = field(default_factory=dict)
     captured: dict[tuple[str, ...], str] = field(default_factory=dict)
     lines: dict[Location, Line] = field(default_factory=dict)
+    unread: list[NotSaid] = field(default_factory=list)
+
+    def live_at(self, region: int) -> frozenset[Location]:
+        """At which locations a region is live, as the dump says it."""
+        return locations(self.live.get(region, ""))
 
     def line(self, location: Location) -> Line:
         """What the statement or terminator says, which is read once that is asked for."""
@@ -112,11 +112,11 @@ class Body:
 
     def function_span(self, location: Location) -> Optional[Span]:
         """Where the function stands that is called there: its name, or else the temporary that has it."""
-        line, (_, span, constant) = self.line(location), self.statements[location]
+        line, said = self.line(location), self.statements[location]
         if isinstance(line, Call) and isinstance(line.function, Place) and not line.function.steps:
             local = self.locals.get(line.function.local)
-            return local.span if local and not local.name else span
-        return constant if isinstance(line, (Call, Foreign)) else None
+            return local.span if local and not local.name else said.span
+        return said.constant if isinstance(line, (Call, Foreign)) else None
 
     def spans(self) -> Iterator[Span]:
         """The places in the source that the dump names."""
@@ -147,8 +147,8 @@ def reborrows(line: Assign) -> bool:
     return line.kind in ("ref", "mut") and line.source.words[1:] == DEREF
 
 
-def locations(text: str) -> Iterator[Location]:
+@lru_cache(1024)    # regions of several variables are live where others are
+def locations(text: str) -> frozenset[Location]:
     """What `bb0[1..=2], bb1[0]` says."""
-    for run in RUN.finditer(text):
-        for index in range(int(run[2]), int(run[3] or run[2]) + 1):
-            yield Location(int(run[1]), index)
+    return frozenset(Location(int(run[1]), index) for run in RUN.finditer(text)
+                     for index in range(int(run[2]), int(run[3] or run[2]) + 1))

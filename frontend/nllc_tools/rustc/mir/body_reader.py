@@ -6,15 +6,16 @@ from functools import lru_cache
 from typing import NamedTuple, Optional
 
 from nllc_tools.base.refusal import Refusal
-from nllc_tools.rustc.mir.body import Body, Live, Local, Reason, Statement
+from nllc_tools.rustc.mir.body import Body, Local, Reason, Statement
 from nllc_tools.rustc.mir.scanner import closing_of
 from nllc_tools.rustc.mir.spans import Span, span_of
 from nllc_tools.rustc.mir.statement_reader import read_place
 from nllc_tools.rustc.tables import Location
+from nllc_tools.rustc.unsaid import NOT_READ, NotSaid
 
 TITLE = re.compile(r"// MIR for `(.*)` 0 nll")
 DECLARED = re.compile(r" +(\S.*?)\s+// (?:\S+ )*?in scope \d+ at (.*)")
-DONE = re.compile(r" {8}(\S.*);\s+// (?:bb\S+ )?scope \d+ at (.*)")
+DONE = re.compile(r" {8}(\S.*);\s+// (?:(bb\S+): )?scope \d+ at (.*)")
 # Of the same lines without the code, where what is declared or done stands; names of variables stand elsewhere, too.
 SPOT = re.compile(r"^(?!        +debug |    debug \S+ => [^_]).*;\s+// (?:[^/]* )?scope \d+ at (.*)")
 RESULT = re.compile(r" +let (?:mut )?_0: .*;\s+// (?:\S+ )*?in scope \d+ at (.*)")
@@ -23,7 +24,8 @@ DEBUG = re.compile(r"debug (\S+) => _(\d+);")
 CAPTURED = re.compile(r"debug (\S+) => (\(.*\));")
 BLOCK = re.compile(r"    bb(\d+)(?: \(cleanup\))?: \{")
 STATEMENT = re.compile(r" {8}[^\s/]")
-CONSTANT = " " * 41 + "// + span: "
+REMARK = " " * 41 + "// "
+ASKED = "| Inference Constraints"
 PARAMETER = re.compile(r"(?:^|, )_(\d+): ")
 REASON = re.compile(r"\| '\?(\d+): '\?(\d+) due to (\w+)(.*) at "
                     r"(?:All\(.*\)|Single\(bb(\d+)\[(\d+)\]\)) \((.*) \(#(\d+)\)")
@@ -91,12 +93,15 @@ def unknown(mir_path: str) -> Refusal:
 
 def read_regions(body: Body, lines: list[str]) -> None:
     """Takes what stands above the function; of where regions are live no more than the text."""
+    asked = lines[lines.index(ASKED) + 1:] if ASKED in lines else []
     reasons = (line for line in lines if " due to " in line)
     lines = [line for line in lines if " due to " not in line]
     body.external = {int(found[1]) for found in map(EXTERNAL.match, lines) if found}
     body.reasons = list(filter(None, map(reason_of, reasons)))
-    body.live = Live({int(found[1]): found[2] for found in map(LIVE.fullmatch, lines) if found})
+    body.live = {int(found[1]): found[2] for found in map(LIVE.fullmatch, lines) if found}
     body.needs = [(int(found[1]), int(found[2])) for found in map(NEED.match, lines) if found]
+    if "|" not in asked or asked.index("|") != len(body.reasons) + len(body.live):
+        body.unread.append(NotSaid(NOT_READ, "rustc's constraints"))
 
 
 def in_order(reasons: list[Reason], edges: list[tuple[int, int]]) -> list[Reason]:
@@ -151,33 +156,27 @@ def read_code(body: Body, lines: list[str]) -> None:
 
     A statement whose text has a line feed, in `asm!`, goes on up to where it stands in the source.
     """
-    block, index, begun = None, 0, ""
+    at = Location(-1, 0)
+    begun, remarks = "", [""]
     for line in lines:
         if line == "}":
-            return
-        if block is None:
-            if found := DECLARED.fullmatch(line):
-                read_declaration(body, found[1], span_of(found[2]))
-            elif found := BLOCK.fullmatch(line):
-                block = int(found[1])
-        elif line.startswith(CONSTANT):
-            add_constant(body.statements, Location(block, index - 1), line)
-        elif begun or STATEMENT.match(line):
-            line, begun = f"{begun} {line.strip()}" if begun else line, ""
-            if found := DONE.fullmatch(line):
-                body.statements[Location(block, index)] = Statement(found[1], span_of(found[2]))
-                index += 1
-            else:
-                begun = line
-        elif found := BLOCK.fullmatch(line):
-            block, index = int(found[1]), 0
-
-
-def add_constant(statements: dict[Location, Statement], location: Location, line: str) -> None:
-    """Takes the place of a statement's first constant."""
-    statement = statements.get(location)
-    if statement and statement.constant is None:
-        statements[location] = statement._replace(constant=span_of(line.removeprefix(CONSTANT)))
+            break
+        if found := BLOCK.fullmatch(line):
+            at = Location(int(found[1]), 0)
+        elif at.block < 0 and (found := DECLARED.fullmatch(line)):
+            read_declaration(body, found[1], span_of(found[2]))
+        elif line.startswith(REMARK):
+            remarks.append(line.removeprefix(REMARK))
+        elif begun or STATEMENT.match(line) and (at.block >= 0 or DONE.fullmatch(line)):
+            begun = f"{begun} {line.strip()}" if begun else line
+            if found := DONE.fullmatch(begun):
+                begun, remarks = "", []
+                body.statements[at] = Statement(found[1], span_of(found[3]), remarks)
+                if found[2] not in (None, str(at)):
+                    body.unread.append(NotSaid(NOT_READ, "rustc's locations of statements"))
+                at = Location(at.block, at.index + 1)
+    else:
+        body.unread.insert(0, NotSaid("a dump that isn't whole"))
 
 
 def read_declaration(body: Body, code: str, span: Optional[Span]) -> None:

@@ -10,7 +10,7 @@ from nllc_tools.base.workers import keep_silent
 from nllc_tools.model.types.definition_evidence import gather
 from nllc_tools.model.types.definitions import Definitions, Evidence
 from nllc_tools.rustc.dumps import Dump
-from nllc_tools.rustc.mir.function import read_function
+from nllc_tools.rustc.mir.function import Function
 from nllc_tools.rustc.unsaid import NOT_READ, NotSaid
 from nllc_tools.texts.mir.translation import translate
 from nllc_tools.texts.mir.writer import mir_text
@@ -57,7 +57,7 @@ def begin(parent: int, known: Definitions) -> None:
 def evidence_of(dump: Dump) -> Evidence:
     """What the lines of a function say; of one that isn't understood, nothing."""
     try:
-        return gather(read_function(dump))
+        return gather(Function(dump))
     except (NotSaid, Refusal, *STRANGE):
         return Evidence()
 
@@ -68,7 +68,7 @@ def made(dump: Dump) -> Made:
 
 def text_of(dump: Dump, known: Definitions) -> Made:
     try:
-        return Made(dump, mir_text(translate(read_function(dump), known)))
+        return Made(dump, mir_text(translate(Function(dump), known)))
     except NotSaid as refusal:
         return Made(dump, "", refusal.reason, refusal.where)
     except Refusal as refusal:
