@@ -1,69 +1,59 @@
 """Calls in a MIR text, by the signatures of what is called."""
 
 import re
-from typing import Callable, Union
+from typing import Callable
 
 from nllc_tools.model.types.definitions import is_opaque
 from nllc_tools.rustc.mir.function import Paths
-from nllc_tools.rustc.mir.statements import Call, Operand, Place
-from nllc_tools.rustc.mir.types import PLAIN, STATIC, Region, Type
+from nllc_tools.rustc.mir.statements import Call, Place
+from nllc_tools.rustc.mir.types import PLAIN, STATIC, Part, Type
 from nllc_tools.rustc.unsaid import NotSaid
-from nllc_tools.texts.mir.parts import Parts
-from nllc_tools.texts.mir.text import STOP
+from nllc_tools.texts.mir.parts import Bounds, Parts, unfit
+from nllc_tools.texts.mir.text import STOP, Used
 
 
 class Calls(Parts):
     """Translates calls, by the signatures of what is called."""
 
     def called(self, line: Call, paths: Paths) -> None:
-        exits = tuple(block for block in (line.returns, line.unwinds) if block is not None)
-        if not exits:
-            self.needs_stop = True
-            exits = (STOP,)
-        operands: list[tuple[Operand, Type]] = []
+        """A call by its signature, made fresh."""
+        exits = tuple(block for block in (line.returns, line.unwinds) if block is not None) or (STOP,)
+        operands: list[tuple[Used, Type]] = []
         if isinstance(line.function, Place):
-            type = self.walk(line.function).type
-            operands.append((line.function, type))
-            word = "pointer"
+            pointer = self.operand(line.function)
+            operands.append((pointer, pointer.type))
+            type, word = pointer.type, "pointer"
         else:
             type = line.function.type or PLAIN
             word = word_of(type.name)
         signature = type.types[1] if type.form == "function" else type
         if signature.form != "fn":
             raise NotSaid("a call of what has no signature", type.name)
-        self.signed(line, paths, signature, operands, word, exits)
-
-    def signed(self, line: Call, paths: Paths, signature: Type, operands: list[tuple[Operand, Type]], word: str,
-               exits: tuple[int, ...]) -> None:
-        """A call by its signature, made fresh."""
         new: dict[str, int] = {}
-        *inputs, output = (instantiate(part, 0, lambda bound: new.get(bound) or self.bound(new, bound))
-                           for part in signature.types)
+        *inputs, output = (instantiate(part, 0, lambda bound: new.get(bound) or self.bound(new, bound)) for part in signature.types)
         where = paths.bounds()
         if len(inputs) > len(line.operands):
             raise NotSaid("a call of other arguments than its signature's", word)
-        for operand, input in zip(line.operands, inputs):
-            own = self.operand(operand)[1]
-            operands.append((operand, self.fit(input, own, paths, where, True)))
-        for operand in line.operands[len(inputs):]:     # of a C function
-            operands.append((operand, self.operand(operand)[1]))
-        target = self.walk(line.place).type
-        self.call(line.place, word, operands, self.fit(output, target, paths, where, False), where, exits)
+        for number, operand in enumerate(line.operands):
+            used = self.operand(operand)    # a C function has more than its inputs
+            operands.append((used, self.fit(inputs[number], used.type, paths, where) if number < len(inputs) else used.type))
+        target = self.walk(line.place)
+        self.call(target, word, operands, self.fit(output, target.type, paths, where), where, exits)
 
     def bound(self, new: dict[str, int], bound: str) -> int:
         new[bound] = self.new_region()
         return new[bound]
 
-    def fit(self, signed: Type, own: Type, paths: Paths, where: set[tuple[int, int]], is_input: bool) -> Type:
+    def fit(self, signed: Type, own: Type, paths: Paths, where: Bounds) -> Type:
         """A type of a signature in the shape of what it meets: a projection there is the type that it stands for."""
         if self.structs.is_int(own):
             return own
         if signed.form == own.form and signed.name == own.name and len(signed.parts) == len(own.parts):
             return Type(own.form, own.name, tuple(
-                self.fit(a, b, paths, where, is_input) if isinstance(b, Type) and isinstance(a, Type) else a
+                self.fit(a, b, paths, where) if isinstance(b, Type) and isinstance(a, Type) else a
                 for a, b in zip(signed.parts, own.parts)))
         if signed.form != "alias" and not is_opaque(own):
-            raise NotSaid("types that don't fit", f"{signed.form} {signed.name}, {own.form} {own.name}")
+            raise unfit(signed, own)
         if is_opaque(own):
             where |= paths.pairs()
         self.approximate("what a projection stands for, by what rustc asks of it")
@@ -88,7 +78,7 @@ def instantiate(type: Type, depth: int, new: Callable[[str], int]) -> Type:
     """The type with new regions for those that the outermost `for<..>` binds."""
     last = len(type.parts) - 1
 
-    def part_of(number_of: int, part: Union[Region, Type]) -> Union[Region, Type]:
+    def part_of(number_of: int, part: Part) -> Part:
         inner = depth + (type.form == "fn" or (type.form == "dyn" and number_of < last))
         if isinstance(part, Type):
             return instantiate(part, inner, new)
@@ -100,6 +90,4 @@ def instantiate(type: Type, depth: int, new: Callable[[str], int]) -> Type:
                 return new(rest)
         return part
 
-    if not type.parts:
-        return type
-    return Type(type.form, type.name, tuple(part_of(number, part) for number, part in enumerate(type.parts)))
+    return type._replace(parts=tuple(part_of(number, part) for number, part in enumerate(type.parts)))

@@ -9,7 +9,9 @@ from nllc_tools.rustc.mir.statements import Assign, Operand, Place, places_of
 from nllc_tools.rustc.mir.types import PLAIN, STATIC, Region, Type
 from nllc_tools.rustc.tables import Location
 from nllc_tools.rustc.unsaid import NotSaid
-from nllc_tools.texts.mir.text import NEXT, Point, Walked, names_of
+from nllc_tools.texts.mir.text import NEXT, Point, Used, Walked, names_of
+
+Bounds = set[tuple[int, int]]
 
 
 class Parts:
@@ -20,16 +22,14 @@ class Parts:
         self.definitions = definitions
         fields, structured = fields_of(definitions, function.locals,
                                        (place for line in function.lines.values() for place in places_of(line)))
-        fields += self.discriminants()
-        self.structs = Structs(definitions, fields, structured)
+        self.structs = Structs(definitions, [*fields, *self.discriminants()], structured)
         self.names = names_of(function)
         self.used: set[int] = set()
         self.fresh: list[str] = []
         self.points: list[Point] = []
         self.nearest: list[str] = []
         self.spare = len(function.locals)
-        self.location: Optional[Location] = None
-        self.needs_stop = False
+        self.location = Location(0, 0)
 
     def discriminants(self) -> Iterator[Field]:
         for line in self.function.lines.values():
@@ -60,8 +60,7 @@ class Parts:
         return self.structs.spell(type, self.name)
 
     def approximate(self, words: str) -> None:
-        at = f"bb{self.location.block}[{self.location.index}]" if self.location else ""
-        self.nearest.append(f"{at}: {words}")
+        self.nearest.append(f"{self.location}: {words}")
 
     # Places and operands
 
@@ -87,68 +86,69 @@ class Parts:
                 prefix, prefix_type = text, type
         return Walked(type, text, prefix, prefix_type, derefs, is_crossed)
 
-    def operand(self, operand: Operand) -> tuple[Optional[str], Type]:
-        """The words of an operand, and its type; a constant with regions, and a place without words, have none."""
+    def operand(self, operand: Operand) -> Used:
         if isinstance(operand, Place):
             walked = self.walk(operand)
             word = "move" if operand.is_moved else "copy"
-            return (f"{word} {walked.text}" if walked.text is not None else None), walked.type
+            return Used(walked.type, None if walked.text is None else f"{word} {walked.text}", walked)
         type = operand.type or PLAIN
-        return ("const" if self.structs.is_int(type) else None), type
+        return Used(type, "const" if self.structs.is_int(type) else None)
+
+    def are_ints(self, *types: Type) -> bool:
+        return all(map(self.structs.is_int, types))
 
     # Lines
 
-    def here(self) -> Location:
-        """The location of the line that is translated."""
-        if self.location is None:
-            raise NotSaid("a line that stands nowhere")
-        return self.location
-
     def add(self, text: str, exits: Optional[tuple[int, ...]] = None) -> None:
-        self.points.append(Point(text, exits, self.here()))
+        self.points.append(Point(text, exits, self.location))
 
-    def call(self, target: Place, word: str, operands: list[tuple[Operand, Type]], result: Type,
-             where: Iterable[tuple[int, int]] = (), exits: tuple[int, ...] = (NEXT,)) -> None:
+    def add_call(self, text: str, where: Bounds = set(), exits: tuple[int, ...] = (NEXT,)) -> None:
+        """Adds a call, with what it asks of regions and where it goes on."""
+        bounds = sorted(f"{self.name(a)}: {self.name(b)}" for a, b in where if a != STATIC and a != b)
+        asked = f" where {', '.join(bounds)}" if bounds else ""
+        self.add(f"{text}{asked} -> %s" + (" unwind %s" if len(exits) > 1 else ""), exits)
+
+    def call(self, target: Walked, word: str, operands: Iterable[tuple[Used, Type]], result: Type,
+             where: Bounds = set(), exits: tuple[int, ...] = (NEXT,)) -> None:
         """A call: each operand with the type that it is to have, and the result's."""
-        asked_for, listed = set(where), []
-        for operand, wanted in operands:
-            words, type = self.operand(operand)
-            if not self.fits(type, wanted):
-                raise NotSaid("types that don't fit", f"{word}: {type.form} {type.name}, {wanted.form} {wanted.name}")
-            if words is not None:
-                listed.append(f"{words}: {self.spell(wanted)}")
+        where, listed = set(where), []
+        for used, wanted in operands:
+            self.must_fit(used.type, wanted, f"{word}: ")
+            if used.words is not None:
+                listed.append(f"{used.words}: {self.spell(wanted)}")
                 continue
-            asked_for |= self.definitions.wants(type, wanted)
-            if isinstance(operand, Place):
-                listed.append(self.prefix(operand))
+            where |= self.definitions.wants(used.type, wanted)
+            if used.place:
+                listed.append(self.prefix(used.place))
             else:
-                asked_for |= self.asked_of_constant(type)
-        place = self.walk(target)
-        if not self.fits(result, place.type):
-            raise NotSaid("types that don't fit",
-                          f"{word}: {result.form} {result.name}, {place.type.form} {place.type.name}")
-        goal, spelled = place.text, self.spell(result)
+                where |= self.asked_of_constant(used.type)
+        self.must_fit(result, target.type, f"{word}: ")
+        goal, spelled = target.text, self.spell(result)
         if goal is None:
-            asked_for |= self.definitions.wants(result, place.type)
+            where |= self.definitions.wants(result, target.type)
             listed.append(self.prefix(target))
             goal, spelled = f"_{self.spare}", "int"
-        bounds = sorted(f"{self.name(a)}: {self.name(b)}" for a, b in asked_for if a != STATIC and a != b)
-        asked = f" where {', '.join(bounds)}" if bounds else ""
-        arrow = " -> %s unwind %s" if len(exits) > 1 else " -> %s"
-        self.add(f"{goal} = call {word}({', '.join(listed)}): {spelled}{asked}{arrow}", exits)
+        self.add_call(f"{goal} = call {word}({', '.join(listed)}): {spelled}", where, exits)
 
-    def asked_of_constant(self, type: Type) -> set[tuple[int, int]]:
+    def asked_of_constant(self, type: Type) -> Bounds:
         """What the definition of a constant asks of the regions of its type, of which rustc writes new ones."""
-        own, paths = {*type.regions(), STATIC}, self.function.paths(self.here())
+        own, paths = {*type.regions(), STATIC}, self.function.paths(self.location)
         return {(region, other) for region in own for other in paths.reached(region) if other in own}
 
-    def prefix(self, place: Place) -> str:
+    def prefix(self, place: Walked) -> str:
         """The use of the part of a place that the text can write."""
-        walked = self.walk(place)
         self.approximate("a place that the profile can't write, by the part that it can")
-        return f"copy {walked.prefix}: {self.spell(walked.prefix_type)}"
+        return f"copy {place.prefix}: {self.spell(place.prefix_type)}"
 
     def fits(self, type: Type, other: Type) -> bool:
         if self.structs.is_int(type) or self.structs.is_int(other):
-            return self.structs.is_int(type) and self.structs.is_int(other)
+            return self.are_ints(type, other)
         return type.shape() == other.shape()
+
+    def must_fit(self, type: Type, other: Type, what: str = "") -> None:
+        if not self.fits(type, other):
+            raise unfit(type, other, what)
+
+
+def unfit(type: Type, other: Type, what: str = "") -> NotSaid:
+    return NotSaid("types that don't fit", f"{what}{type.form} {type.name}, {other.form} {other.name}")

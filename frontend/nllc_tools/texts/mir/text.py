@@ -34,6 +34,14 @@ class Walked(NamedTuple):
     is_crossed: bool
 
 
+class Used(NamedTuple):
+    """An operand: its type, its words, and its place if it is one; a constant with regions, and a place without words, have none."""
+
+    type: Type
+    words: Optional[str]
+    place: Optional[Walked] = None
+
+
 @dataclass
 class Text:
     """The parts of a text."""
