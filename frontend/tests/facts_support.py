@@ -27,6 +27,7 @@ from nllc_tools.rustc.compiler import CRATE  # noqa: E402
 from nllc_tools.rustc.dumps import find_dumps  # noqa: E402
 from nllc_tools.rustc.error_owners import own_errors  # noqa: E402
 from nllc_tools.rustc.errors import Error, Label  # noqa: E402
+from nllc_tools.rustc.mir.spans import Span  # noqa: E402
 from nllc_tools.texts.facts.conversion import convert  # noqa: E402
 from nllc_tools.texts.facts.writer import facts_text  # noqa: E402
 
@@ -79,7 +80,11 @@ def stored_errors(source):
 
 def error_of(name, line, column, code, message, more):
     labels, notes, helps = json.loads(more)
-    return Error("", [(name, int(line))], int(column), code, message, [Label(*one) for one in labels], notes, helps)
+    return Error("", [(name, int(line))], int(column), code, message, [label_of(*one) for one in labels], notes, helps)
+
+
+def label_of(file, first, column, last, end, text):
+    return Label(Span(file, first, last, column, end), text)
 
 
 @cache

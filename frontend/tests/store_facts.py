@@ -58,7 +58,8 @@ def store_errors(errors):
     with open(os.path.join(support.HERE, "loans", "errors.tsv"), "w", encoding="utf-8") as file:
         for error in errors:
             message = " ".join(error.message.split())
-            more = json.dumps([error.labels, error.notes, error.helps], ensure_ascii=False)
+            more = json.dumps([[(span.file, *span.begin, *span.stop, text) for span, text in error.labels], error.notes, error.helps],
+                              ensure_ascii=False)
             row = (error.places[0][0], str(error.line), str(error.column), error.code, message, more)
             file.write("\t".join(row) + "\n")
 

@@ -160,7 +160,7 @@ class RustcsWords(unittest.TestCase):
         [error] = read_error('{"level": "error", "rendered": "x", "message": "m", "code": {"code": "E0716"}, '
                              f'"spans": [{inner}]}}')
         self.assertEqual((error.places, error.column, error.words()), ([("a.rs", 7)], 5, "E0716: m"))
-        self.assertEqual(error.labels, [("a.rs", 7, 5, 7, 9, "is gone")])
+        self.assertEqual(error.labels, [(Span("a.rs", 7, 7, 5, 9), "is gone")])
         self.assertEqual((error.within, error.where()), (None, "a.rs:7:5"))
 
     def test_errors_in_macros_of_another_file_of_the_crate(self):
@@ -170,7 +170,7 @@ class RustcsWords(unittest.TestCase):
         said = {"level": "error", "rendered": "error\n  --> macros.rs:2:3\n", "message": "m", "code": None, "spans": [inner]}
         [error] = read_error(json.dumps(said), "sub")
         self.assertEqual((error.places, error.column), ([("a.rs", 7)], 5))
-        self.assertEqual((error.within[:3], error.where()), (("macros.rs", 2, 3), "sub/macros.rs:2:3"))
+        self.assertEqual((error.within, error.where()), (Span("macros.rs", 2, 2, 3, 4), "sub/macros.rs:2:3"))
 
     def test_whose_errors(self):
         outer = Dump("f", "f", "", "", Span("a.rs", 1, 9, 1, 2))

@@ -48,9 +48,7 @@ class Dump:
 
     def is_inside(self, file: str, line: int, column: int) -> bool:
         """Whether a character of a file stands inside the function, behind its first one."""
-        span = self.span
-        return span is not None and span.file == file \
-            and (span.first, span.column) < (line, column) < (span.last, span.end)
+        return self.span is not None and self.span.file == file and self.span.begin < (line, column) < self.span.stop
 
 
 class DumpPaths(NamedTuple):

@@ -32,7 +32,7 @@ def is_around(dump: Dump, other: Dump) -> bool:
     """Whether another function, which is no closure, is declared inside a function."""
     outer, inner = dump.span, other.span
     return not other.is_closure and outer is not None and inner is not None and outer.file == inner.file \
-        and (outer.first, outer.column) < (inner.first, inner.column) and (inner.last, inner.end) < (outer.last, outer.end)
+        and outer.begin < inner.begin and inner.stop < outer.stop
 
 
 def is_own(dump: Dump, dumps: list[Dump], error: Error) -> bool:

@@ -9,6 +9,7 @@ from dataclasses import dataclass, field
 from typing import TYPE_CHECKING, Callable, NamedTuple, Optional
 
 from nllc_tools.base.grouping import grouped
+from nllc_tools.rustc.mir.spans import Span
 
 if TYPE_CHECKING:
     from nllc_tools.rustc.diagnostics import Child, Diagnostic, DiagnosticSpan
@@ -20,15 +21,10 @@ ARROW = re.compile(r"--> (.*):(\d+):(\d+)")
 INVOCATION = "in this macro invocation"
 
 
-
 class Label(NamedTuple):
     """A place that an error names, and what it says of it."""
 
-    file: str
-    line: int
-    column: int
-    last: int
-    end: int
+    span: Span
     text: str
 
 
@@ -50,7 +46,7 @@ class Error:
     notes: list[str] = field(default_factory=list)
     helps: list[str] = field(default_factory=list)
     root: str = ""
-    within: Optional[Label] = None
+    within: Optional[Span] = None
     inside: Optional[Error] = None
 
     @property
@@ -64,8 +60,8 @@ class Error:
     @property
     def used(self) -> tuple[str, int, int]:
         """Where the function has it: the error's place, or where a macro of the same file is used in whose lines that is."""
-        macros = [(label.file, label.line, label.column) for label in self.labels if label.text == INVOCATION]
-        return macros[0] if macros else (*self.places[0], self.column)
+        used = next((label.span for label in self.labels if label.text == INVOCATION), None)
+        return (used.file, *used.begin) if used else (*self.places[0], self.column)
 
     def is_of_lint(self) -> bool:
         """Whether it is no error but for a lint that the source, or rustc, denies."""
@@ -77,7 +73,7 @@ class Error:
     def where(self) -> str:
         """The place that rustc names."""
         if self.within:
-            return f"{os.path.join(self.root, self.within.file)}:{self.within.line}:{self.within.column}"
+            return f"{os.path.join(self.root, self.within.file)}:{self.within.first}:{self.within.column}"
         return f"{self.path}:{self.line}:{self.column}"
 
 
@@ -110,7 +106,7 @@ def error_of(said: Diagnostic, root: str, home: Optional[Callable[[DiagnosticSpa
     places = [(span["file_name"], span["line_start"]) for span in spans]
     column = spans[0]["column_start"] if spans else 0
     code = own["code"] if (own := said.get("code")) else ""
-    labels = [place_of(home(span, root))._replace(text=span.get("label") or "") for span in said.get("spans", ())]
+    labels = [Label(place_of(home(span, root)), span.get("label") or "") for span in said.get("spans", ())]
     labels += used_macro(home(primary[0], root)) if primary else []
     below = said.get("children", ())
     notes = [child["message"] for child in below if child["level"] == "note" and VARIANCE.search(child["message"])]
@@ -120,25 +116,19 @@ def error_of(said: Diagnostic, root: str, home: Optional[Callable[[DiagnosticSpa
     return Error(said["rendered"], places, column, code, said.get("message", ""), labels, notes, helps, root, within, inside)
 
 
-def within_macro(own: DiagnosticSpan, home: DiagnosticSpan, rendered: str) -> Optional[Label]:
+def within_macro(own: DiagnosticSpan, home: DiagnosticSpan, rendered: str) -> Optional[Span]:
     """The place of an error, where it is in a macro of another file and rustc shows it there."""
     shown = ARROW.search(without_colours(rendered))
     if own["file_name"] == home["file_name"] or not shown:
         return None
     place = place_of(own)
-    return place if shown.groups() == (place.file, str(place.line), str(place.column)) else None
+    return place if shown.groups() == (place.file, str(place.first), str(place.column)) else None
 
 
 def used_macro(home: DiagnosticSpan) -> list[Label]:
     """Where the macro is used in whose lines a place is; none for a place in no macro, or in what a macro takes."""
-    use = outermost(home)
-    is_argument = use is home or is_inside(place_of(home), place_of(use))
-    return [] if is_argument else [place_of(use)._replace(text=INVOCATION)]
-
-
-def is_inside(inner: Label, outer: Label) -> bool:
-    return inner.file == outer.file and (outer.line, outer.column) <= (inner.line, inner.column) \
-        and (inner.last, inner.end) <= (outer.last, outer.end)
+    use = place_of(outermost(home))
+    return [] if place_of(home).is_inside(use) else [Label(use, INVOCATION)]
 
 
 def help_of(child: Child) -> str:
@@ -157,8 +147,8 @@ def changed(spans: list[DiagnosticSpan]) -> str:
     return " ".join(line.split())
 
 
-def place_of(span: DiagnosticSpan) -> Label:
-    return Label(span["file_name"], span["line_start"], span["column_start"], span["line_end"], span["column_end"], "")
+def place_of(span: DiagnosticSpan) -> Span:
+    return Span(span["file_name"], span["line_start"], span["line_end"], span["column_start"], span["column_end"])
 
 
 def at_home(span: DiagnosticSpan, root: str) -> DiagnosticSpan:

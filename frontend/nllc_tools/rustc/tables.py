@@ -10,6 +10,7 @@ from __future__ import annotations
 import os
 import re
 from dataclasses import dataclass
+from functools import partial
 from typing import Callable, NamedTuple, TypeVar
 
 from nllc_tools.base.refusal import Refusal
@@ -103,8 +104,8 @@ class Reader:
 
     def __init__(self, folder: str):
         self.folder = folder
-        self.spot, self.region, self.variable = Known(spot), Known(region), Known(variable)
-        self.loan, self.path = Known(loan), Known(path)
+        self.spot = Known(spot)
+        self.region, self.variable, self.loan, self.path = (Known(partial(number, prefix)) for prefix in ("'?", "_", "bw", "mp"))
 
     def tables(self) -> Tables:
         spots, regions, variables, loans, paths = self.spot, self.region, self.variable, self.loan, self.path
@@ -198,17 +199,6 @@ def spot(field: str) -> Spot:
     return Spot(Location(int(found[2]), int(found[3])), found[1] == "Mid")
 
 
-def region(field: str) -> int:
-    return int(field.removeprefix("\"'?").removesuffix('"'))
-
-
-def variable(field: str) -> int:
-    return int(field.removeprefix("\"_").removesuffix('"'))
-
-
-def loan(field: str) -> int:
-    return int(field.removeprefix("\"bw").removesuffix('"'))
-
-
-def path(field: str) -> int:
-    return int(field.removeprefix("\"mp").removesuffix('"'))
+def number(prefix: str, field: str) -> int:
+    """The number in a field: 5 of `'?5`, 3 of `_3`, 4 of `mp4`, 2 of `bw2`, which stand in quotes."""
+    return int(field.removeprefix(f'"{prefix}').removesuffix('"'))

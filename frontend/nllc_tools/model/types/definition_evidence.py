@@ -4,7 +4,7 @@ from typing import Collection, Iterator
 
 from nllc_tools.model.types.definitions import BACK, BOTH, FORWARD, Evidence, Key, made_type, own_signs, times
 from nllc_tools.rustc.mir.function import Function, Paths
-from nllc_tools.rustc.mir.statements import Assign, Call, Constant, Line, Place, behind, places_of
+from nllc_tools.rustc.mir.statements import Assign, Call, Constant, Line, Place, Step, behind, places_of
 from nllc_tools.rustc.mir.types import PLAIN, STATIC, Region, Type
 
 
@@ -47,20 +47,14 @@ class Gatherer:
         written = {one for step in place.steps if step.type is not None for one in step.type.regions()}
         for step in place.steps:
             if step.type is not None and type.form not in ("tuple", "closure", "coroutine"):
-                self.field(paths, type, step.variant, step.field, step.type, written)
+                self.field(paths, type, step, step.type, written)
             type = behind(type, step) or PLAIN
         return type
 
-    def field(self, paths: Paths, base: Type, variant: str, number: int, type: Type, written: set[int]) -> None:
-        regions = base.regions()
-        found = []
-        for one in type.regions():
-            back = paths.reached(one, written)
-            near = {n for n, other in enumerate(regions) if other in back or one in paths.reached(other, written)}
-            if one in paths.reached(STATIC, written) or STATIC in back:
-                near.add(-1)
-            found.append(frozenset(near))
-        self.evidence.add_field((base.shape(), variant, number, type.shape()), found)
+    def field(self, paths: Paths, base: Type, step: Step, type: Type, written: set[int]) -> None:
+        found = [near(paths, one, base.regions(), written) | (
+            {-1} if one in paths.reached(STATIC, written) else set()) for one in type.regions()]
+        self.evidence.add_field((base.shape(), step.variant, step.field, type.shape()), found)
 
     def assigned(self, paths: Paths, line: Assign, types: list[Type]) -> None:
         target, *others = types
@@ -75,18 +69,11 @@ class Gatherer:
             return
         type, variant = made
         self.meet(paths, type, target)
-        regions = type.regions()
         for number, operand in enumerate(line.operands):
-            if isinstance(operand, Constant):
-                continue
-            own = self.walk(paths, operand)
-            found = []
-            for one in own.regions():
-                seen = paths.reached(one)
-                found.append(frozenset(
-                    {n for n, other in enumerate(regions) if other in seen or one in paths.reached(other)}
-                    | ({-1} if STATIC in seen else set())))
-            self.evidence.add_field((type.shape(), variant, number, own.shape()), found)
+            if isinstance(operand, Place):
+                own = self.walk(paths, operand)
+                self.evidence.add_field((type.shape(), variant, number, own.shape()),
+                                        [near(paths, one, type.regions()) for one in own.regions()])
 
     def called(self, paths: Paths, line: Call, types: list[Type]) -> None:
         """The types of what goes in and comes out, where the signature has them with regions that it names."""
@@ -109,6 +96,13 @@ class Gatherer:
                 continue
             ways = FORWARD * paths.leads(a, b) | BACK * paths.leads(b, a)
             self.evidence.signs[outer, keys] = self.evidence.signs.get((outer, keys), BOTH) & ways
+
+
+def near(paths: Paths, one: int, regions: list[int], stops: Collection[int] = ()) -> frozenset[int]:
+    """The numbers of the regions that are asked to outlive one, or that it is to outlive; -1 is a `'static` that it is to."""
+    after = paths.reached(one, stops)
+    found = {number for number, other in enumerate(regions) if other in after or one in paths.reached(other, stops)}
+    return frozenset(found | ({-1} if STATIC in after else set()))
 
 
 def behind_keys(type: Type, outer: str = "+", keys: tuple[Key, ...] = ()) -> Iterator[tuple[Region, str, tuple[Key, ...]]]:

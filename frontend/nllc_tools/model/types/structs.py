@@ -15,6 +15,7 @@ from nllc_tools.rustc.unsaid import NotSaid
 Named = Callable[[Region], str]
 DISCRIMINANT = ("", -1)
 INSIDE = ("*", 0)
+WRITTEN = {"ref": "&{} {}", "mut": "&{} mut {}", "pointer": "*const {}", "mut pointer": "*mut {}", "slice": "[{}]"}
 
 
 class Field(NamedTuple):
@@ -67,8 +68,8 @@ class Structs:
     def declare(self, shape: Type) -> str:
         """The name of the struct of a shape, which is declared before it is named."""
         if shape not in self.names:
-            word = re.sub(r"\W+", "", shape.name.rpartition("::")[2].title() if "{" in shape.name
-                          else shape.name.rpartition("::")[2]) or shape.form.title().replace(" ", "")
+            last = shape.name.rpartition("::")[2]
+            word = re.sub(r"\W+", "", last.title() if "{" in shape.name else last) or shape.form.title().replace(" ", "")
             self.names[shape] = self.free(word[:1].upper() + word[1:] if word[:1].isalpha() else f"T{word}")
             self.under_way.append(shape)
             self.lines += self.declaration(shape)
@@ -77,10 +78,7 @@ class Structs:
 
     def free(self, word: str) -> str:
         taken = set(self.names.values())
-        number = 1
-        while (found := word if number == 1 else f"{word}_{number}") in taken:
-            number += 1
-        return found
+        return next(found for found in (word, *(f"{word}_{number}" for number in range(2, len(taken) + 2))) if found not in taken)
 
     def declaration(self, shape: Type) -> list[str]:
         count = len(shape.regions())
@@ -118,20 +116,20 @@ class Structs:
             return [DISCRIMINANT, *sorted(key for key in wanted if key != DISCRIMINANT)]
         return [("", number) for number in range(1 + max((number for _, number in wanted), default=-1))]
 
+    def field_type(self, type: Type, key: tuple[str, int]) -> Optional[Type]:
+        """The type of a field; None where no line speaks of it, and of a discriminant."""
+        if key == INSIDE:
+            return type.types[0]
+        wanted = self.wanted.get(type.shape(), {})
+        if key == DISCRIMINANT or key not in wanted and not type.is_closure():
+            return None
+        return self.definitions.field(type, *key, wanted.get(key))
+
     def fields(self, shape: Type, numbered: Type) -> Iterator[str]:
-        wanted = self.wanted.get(shape, {})
-        for variant, number in self.keys(shape):
-            if (variant, number) == INSIDE and shape.form == "mut pointer":
-                yield f"&'static {self.field_spelled(shape, INSIDE, numbered.types[0])}"
-                continue
-            if (variant, number) == INSIDE:
-                type: Optional[Type] = numbered.types[0]
-            elif (variant, number) == DISCRIMINANT or (
-                    (variant, number) not in wanted and not shape.is_closure()):
-                type = None
-            else:
-                type = self.definitions.field(numbered, variant, number, wanted.get((variant, number)))
-            yield "int" if type is None else self.field_spelled(shape, (variant, number), type)
+        for key in self.keys(shape):
+            type = self.field_type(numbered, key)
+            pointer = "&'static " if shape.form == "mut pointer" and key == INSIDE else ""
+            yield "int" if type is None else pointer + self.field_spelled(shape, key, type)
 
     def field_spelled(self, shape: Type, key: tuple[str, int], type: Type) -> str:
         """The type of a field; one in which a struct that isn't yet declared stands can't be written."""
@@ -157,13 +155,8 @@ class Structs:
 
     def needed(self, shape: Type) -> Iterator[Type]:
         """The shapes of the fields of a struct that isn't declared yet."""
-        for key in self.keys(shape):
-            if key == INSIDE:
-                yield shape.types[0].shape()
-            elif key != DISCRIMINANT and (key in self.wanted.get(shape, {}) or shape.is_closure()):
-                type = self.definitions.field(shape, *key, self.wanted.get(shape, {}).get(key))
-                if type is not None:
-                    yield type.shape()
+        types = (self.field_type(shape, key) for key in self.keys(shape))
+        return (type.shape() for type in types if type is not None)
 
     def index(self, base: Type, key: tuple[str, int]) -> Optional[int]:
         """The number by which a text names a field; None where the text can't."""
@@ -179,37 +172,25 @@ def written(type: Type) -> str:
     """A type as Rust writes it, more or less, for a remark; its regions are the struct's parameters."""
     parts = [f"'p{part}" if isinstance(part, int) else f"'{part}" if isinstance(part, str) else written(part)
              for part in type.parts]
-    if type.form in ("ref", "mut"):
-        return f"&{parts[0]} {'mut ' if type.form == 'mut' else ''}{parts[1]}"
-    if type.form == "pointer" or type.form == "mut pointer":
-        return f"*{'const' if type.form == 'pointer' else 'mut'} {parts[0]}"
-    if type.form == "tuple":
-        return f"({', '.join(parts)})"
-    if type.form == "slice":
-        return f"[{parts[0]}]"
+    if type.form in WRITTEN:
+        return WRITTEN[type.form].format(*parts)
     if type.form == "fn":
         return f"fn({', '.join(parts[:-1])}) -> {parts[-1]}"
-    return f"{type.name or 'a type'}<{', '.join(parts)}>" if parts else type.name or "a type"
+    listed, name = ", ".join(parts), type.name or "a type"
+    return f"({listed})" if type.form == "tuple" else f"{name}<{listed}>" if parts else name
 
 
 def step_of(structs: Structs, base: Type, step: Step) -> Optional[str]:
     """How a text writes a step from a place of a type; None where it can't."""
     if step.kind == "deref":
-        if base.form == "mut pointer":
-            index = structs.index(base, INSIDE)
-            return None if index is None else f".{index}.*"
-        if base.is_box():
-            index = structs.index(base, INSIDE)
-            return None if index is None else f".{index}"
-        return ".*"
-    if step.kind == "index":
-        return ".0"
-    if step.kind in ("part", "variant"):
-        return ""
-    if base.form == "tuple":
-        return f".{step.field}"
-    index = structs.index(base, (step.variant, step.field))
-    return None if index is None else f".{index}"
+        if base.form != "mut pointer" and not base.is_box():
+            return ".*"
+        index = structs.index(base, INSIDE)
+        return None if index is None else f".{index}" if base.is_box() else f".{index}.*"
+    if step.kind != "field":
+        return ".0" if step.kind == "index" else ""
+    number = step.field if base.form == "tuple" else structs.index(base, (step.variant, step.field))
+    return None if number is None else f".{number}"
 
 
 def fields_of(definitions: Definitions, locals: dict[int, Type], places: Iterator[Place]) -> tuple[list[Field], set[Type]]:

@@ -3,7 +3,7 @@
 from __future__ import annotations
 
 from collections import Counter
-from typing import Callable, Iterable, Iterator
+from typing import Callable, Collection, Iterable, Iterator
 
 from nllc_tools.base import walks
 from nllc_tools.base.grouping import grouped
@@ -103,7 +103,7 @@ class Paths:
         self.reasons = function.asked.get(location, ())
         self.onwards = onwards(self.reasons)
 
-    def reached(self, begin: int, stops: Iterable[int] = ()) -> set[int]:
+    def reached(self, begin: int, stops: Collection[int] = ()) -> set[int]:
         """The regions that a chain leads to, which may go on through rustc's own that aren't stops."""
         return reached(self.onwards, begin, lambda one: one in self.visible or one in stops)
 

@@ -14,7 +14,7 @@ from nllc_tools.model.loans import Loan, Loans
 from nllc_tools.model.moves import MOVES, Moved
 from nllc_tools.model.regions import STATIC
 from nllc_tools.model.typed_function import TypedFunction
-from nllc_tools.rustc.errors import INVOCATION, Error, Label
+from nllc_tools.rustc.errors import INVOCATION, Error
 from nllc_tools.rustc.mir.body import Local, methods_on_results
 from nllc_tools.rustc.mir.captures import captures
 from nllc_tools.rustc.mir.desugarings import desugarings_of
@@ -44,10 +44,7 @@ class RemarkWriter:
         return f"'{found}" if found else None
 
     def place(self, span: Optional[Span]) -> str:
-        """`8:16-8:22`: where the first character stands, and the one behind the last."""
-        if span is None or span.file != self.source:
-            return "elsewhere"
-        return f"{span.first}:{span.column}-{span.last}:{span.end}"
+        return place_words(span) if span and span.file == self.source else "elsewhere"
 
     def numbers(self, locations: Iterable[Location]) -> str:
         return " ".join(str(n) for n in sorted({self.number[one] for one in locations}))
@@ -198,13 +195,13 @@ class RemarkWriter:
         """The errors, and below each the places that it names."""
         for error in errors:
             yield f"rustc {error.line}:{error.column}: {error.words()}"
-            for label in error.labels:
-                if label.file == self.source:
-                    yield f"label {place_words(label)}: {label.text}".rstrip(": ")
+            for span, text in error.labels:
+                if span.file == self.source:
+                    yield f"label {place_words(span)}: {text}".rstrip(": ")
             if error.within:
                 yield f"within {os.path.join(error.root, error.within.file)}, {place_words(error.within)}"
-            yield from (f"invoked {os.path.join(error.root, label.file)}, {place_words(label)}" for label in error.labels
-                        if label.text == INVOCATION and label.file != self.source)
+            yield from (f"invoked {os.path.join(error.root, span.file)}, {place_words(span)}" for span, text in error.labels
+                        if text == INVOCATION and span.file != self.source)
             yield from (f"note: {note}" for note in error.notes)
             yield from (f"help: {one}" for one in error.helps)
 
@@ -214,5 +211,6 @@ def is_declared_within(local: Optional[Local], place: Optional[Span]) -> bool:
     return local is not None and local.span is not None and place is not None and place.overlaps(local.span)
 
 
-def place_words(label: Label) -> str:
-    return f"{label.line}:{label.column}-{label.last}:{label.end}"
+def place_words(span: Span) -> str:
+    """`8:16-8:22`: where the first character stands, and the one behind the last."""
+    return f"{span.first}:{span.column}-{span.last}:{span.end}"

@@ -30,7 +30,8 @@ class Calls(Parts):
         if signature.form != "fn":
             raise NotSaid("a call of what has no signature", type.name)
         new: dict[str, int] = {}
-        *inputs, output = (instantiate(part, 0, lambda bound: new.get(bound) or self.bound(new, bound)) for part in signature.types)
+        *inputs, output = (instantiate(part, 0, lambda bound: new.get(bound) or self.bound(new, bound))
+                           for part in signature.types)
         where = paths.bounds()
         if len(inputs) > len(line.operands):
             raise NotSaid("a call of other arguments than its signature's", word)

@@ -11,6 +11,7 @@ from nllc_tools.rustc.tables import Location
 from nllc_tools.rustc.unsaid import NotSaid
 from nllc_tools.texts.mir.text import NEXT, Point, Used, Walked, names_of
 
+BY_A_PART = "a place that the profile can't write, by the part that it can"
 Bounds = set[tuple[int, int]]
 
 
@@ -137,7 +138,10 @@ class Parts:
 
     def prefix(self, place: Walked) -> str:
         """The use of the part of a place that the text can write."""
-        self.approximate("a place that the profile can't write, by the part that it can")
+        self.approximate(BY_A_PART)
+        return self.copied(place)
+
+    def copied(self, place: Walked) -> str:
         return f"copy {place.prefix}: {self.spell(place.prefix_type)}"
 
     def fits(self, type: Type, other: Type) -> bool:

@@ -35,7 +35,7 @@ class Walked(NamedTuple):
 
 
 class Used(NamedTuple):
-    """An operand: its type, its words, and its place if it is one; a constant with regions, and a place without words, have none."""
+    """An operand: its type, its words, which constants with regions and some places don't have, and its place if it is one."""
 
     type: Type
     words: Optional[str]

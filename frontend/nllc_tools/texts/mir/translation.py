@@ -13,7 +13,7 @@ from nllc_tools.rustc.mir.statements import Assign, Call, Drop, Jump, Leave, Lin
 from nllc_tools.rustc.mir.types import STATIC, Type
 from nllc_tools.rustc.unsaid import NotSaid
 from nllc_tools.texts.mir.calls import Calls, word_of
-from nllc_tools.texts.mir.parts import Bounds
+from nllc_tools.texts.mir.parts import BY_A_PART, Bounds
 from nllc_tools.texts.mir.text import Text, Used, Walked
 
 COERCIONS = ("Unsize", "ReifyFnPointer", "ClosureFnPointer", "UnsafeFnPointer", "Subtype")
@@ -84,7 +84,7 @@ class Translator(Calls):
     def read(self, place: Place) -> None:
         walked = self.walk(place)
         if walked.text is None:
-            self.approximate("a place that the profile can't write, by the part that it can")
+            self.approximate(BY_A_PART)
         self.add(f"read {walked.prefix}")
 
     def jump(self, line: Jump) -> None:
@@ -102,7 +102,7 @@ class Translator(Calls):
         if line.place.steps:
             walked = self.walk(line.place)
             self.approximate("the drop of a part, as a use of it")
-            self.add_call(f"_{self.spare} = call drop(copy {walked.prefix}: {self.spell(walked.prefix_type)}): int", exits=line.blocks)
+            self.add_call(f"_{self.spare} = call drop({self.copied(walked)}): int", exits=line.blocks)
         elif line.blocks:
             self.add_call(f"drop _{line.place.local}", exits=line.blocks)
         else:
@@ -154,8 +154,7 @@ class Translator(Calls):
         if target.text is None:
             raise NotSaid("a borrow into a place that the profile can't write")
         where: Bounds = {(one, line.region) for one in rests_on(borrowed.derefs) if isinstance(line.region, int)}
-        self.add_call(f"{target.text} = call borrow(copy {borrowed.prefix}: {self.spell(borrowed.prefix_type)}): {self.spell(type)}",
-                      where)
+        self.add_call(f"{target.text} = call borrow({self.copied(borrowed)}): {self.spell(type)}", where)
 
     def static(self, value: Value) -> None:
         """A reference to a static, one of each thread: all regions of its type are 'static."""
