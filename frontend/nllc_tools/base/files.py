@@ -38,6 +38,15 @@ def write(path: str, text: str, mode: Optional[int] = None, advice: str = "name 
             raise
 
 
+def text_or_nothing(path: str) -> str:
+    """The text of a source; nothing where it can't be read."""
+    try:
+        with open(path, encoding="utf-8") as file:
+            return file.read()
+    except (OSError, UnicodeDecodeError):
+        return ""
+
+
 def read_bytes(path: str) -> bytes:
     with refusing(f"{path} can't be read"), open(path, "rb") as file:
         return file.read()

@@ -4,6 +4,7 @@ from dataclasses import dataclass, field
 from functools import cached_property
 from typing import NamedTuple, Optional
 
+from nllc_tools.base.grouping import grouped
 from nllc_tools.base.refusal import Refusal
 from nllc_tools.rustc.dumps import Dump
 from nllc_tools.rustc.mir.accesses import WRITES, Access, accesses
@@ -64,14 +65,12 @@ class Loans:
     def __init__(self, dump: Dump, tables: Tables, body: Body):
         self.dump, self.body = dump, body
         self.destructors = dump.destructors
-        self.uses: dict[int, set[Location]] = {}
-        for variable, spot in tables.var_used_at:
-            self.uses.setdefault(variable, set()).add(spot.location)
+        self.uses = grouped({(variable, spot.location): None for variable, spot in tables.var_used_at})
         self.loans = {number: self.loan(dump, region, spot.location)
                       for region, number, spot in tables.loan_issued_at}
         for number, spot in tables.loan_killed_at:
             self.loans[number].killed.append(spot.location)
-        self.resumed = {Location(line.resumes, 0) for line in map(body.line, body.statements)
+        self.resumed = {Location(line.resumes, 0) for _, line in body.ends()
                         if isinstance(line, Foreign) and line.resumes is not None}
         self.invalid = {(spot.location, number) for spot, number in tables.loan_invalidated_at}
         self.issued = {loan.location: loan for loan in self.loans.values()}
@@ -130,9 +129,8 @@ class Loans:
         first = self.issued.get(location)
         if first is None or first.kind != "mut" or first.target is None or self.loans[number].kind == "mut":
             return False
-        uses = self.uses.get(first.target, set())
-        return not self.body.locals[first.target].name and len(uses) == 1 and all((use, number) in self.invalid
-                                                       for use in uses)
+        uses = self.uses[first.target]
+        return not self.body.locals[first.target].name and len(uses) == 1 and (uses[0], number) in self.invalid
 
     def is_replaced(self, location: Location) -> bool:
         """Whether what is dropped there gets a new value at once: that is one assignment."""

@@ -33,4 +33,4 @@ def number_points(tables: Tables, body: Body) -> Points:
     for begin, end in tables.cfg_edge:
         if begin.is_mid and number[end.location] not in successors[number[begin.location]]:
             successors[number[begin.location]].append(number[end.location])
-    return Points(locations, number, successors, [number[location] for location in locations if body.leaves(location)])
+    return Points(locations, number, successors, [number[location] for location in body.exits()])

@@ -7,6 +7,7 @@ import subprocess
 from functools import cache
 
 from nllc_tools.base.command_line import called
+from nllc_tools.base.files import text_or_nothing
 from nllc_tools.base.refusal import Refusal
 from nllc_tools.rustc.errors import Error
 
@@ -37,11 +38,7 @@ def find_rustc() -> str:
 
 def crate_name(file: str) -> str:
     """The name that a file gives its crate, by which rustc has to call it; that of others."""
-    try:
-        with open(file, encoding="utf-8") as opened:
-            found = NAMED.search(opened.read())
-    except (OSError, UnicodeDecodeError):
-        found = None
+    found = NAMED.search(text_or_nothing(file))
     return found[1] if found else CRATE
 
 

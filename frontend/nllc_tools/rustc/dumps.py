@@ -8,6 +8,7 @@ from dataclasses import dataclass, replace
 from functools import lru_cache, partial
 from typing import Callable, Iterable, NamedTuple, Optional
 
+from nllc_tools.base.files import text_or_nothing
 from nllc_tools.rustc.mir.body_reader import read_body, read_outline
 from nllc_tools.rustc.mir.destructors import DROP_FUNCTION, destroyed_by
 from nllc_tools.rustc.mir.desugarings import desugarings_of
@@ -134,12 +135,7 @@ def impl_header(found: re.Match[str], root: str) -> Optional[str]:
 
 @lru_cache(16)  # a file has many functions
 def lines_of(path: str) -> list[str]:
-    """The lines of a file; none where it can't be read."""
-    try:
-        with open(path, encoding="utf-8") as file:
-            return file.read().split("\n")
-    except (OSError, UnicodeDecodeError):
-        return []
+    return text_or_nothing(path).split("\n")
 
 
 def type_name(header: str) -> Optional[str]:
@@ -156,10 +152,6 @@ def type_name(header: str) -> Optional[str]:
 
 def without_arguments(text: str) -> str:
     """The text without what stands between `<` and `>`."""
-    kept, depth = [], 0
-    for sign in text:
-        depth += (sign == "<")
-        if depth == 0:
-            kept.append(sign)
-        depth -= (sign == ">")
-    return "".join(kept)
+    while (shorter := re.sub("<[^<>]*>", "", text)) != text:
+        text = shorter
+    return text

@@ -13,6 +13,8 @@ from nllc_tools.rustc.mir.types import PLAIN, STATIC, Type
 
 FORWARD, BACK, BOTH = 1, 2, 3
 SIGNS = {FORWARD: "+", BACK: "-", BOTH: "=", 0: "0"}
+# Of the last part of a type, and of those before it; what the signature of a function doesn't name is invariant.
+OWN_SIGNS = {"ref": "++", "mut": "+=", "pointer": "++", "tuple": "++", "slice": "++", "fn": "-+", "function": "=+", "dyn": "=+"}
 TIMES = {("+", "+"): "+", ("+", "-"): "-", ("-", "+"): "-", ("-", "-"): "+"}
 
 # A parameter: the name of a type, and the number of the argument.
@@ -39,19 +41,10 @@ def has_opaque(type: Type) -> bool:
 def own_signs(type: Type) -> Sequence[Optional[str]]:
     """The signs of a type's parts; None where it is for a definition to say."""
     count = len(type.parts)
-    if type.form == "mut":
-        return ["+", "="]
-    if type.form in ("ref", "pointer", "tuple", "slice"):
-        return ["+"] * count
-    if type.form == "fn":
-        return ["-"] * (count - 1) + ["+"]
-    if type.form == "function":
-        return ["=", "+"]     # what the signature doesn't name is invariant
-    if type.form == "dyn":
-        return ["="] * (count - 1) + ["+"]
     if type.form == "adt" or is_opaque(type):
         return [None] * count
-    return ["="] * count
+    signs = OWN_SIGNS.get(type.form, "==")
+    return (signs[0] * (count - 1) + signs[1])[:count]
 
 
 @dataclass

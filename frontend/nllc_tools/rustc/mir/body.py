@@ -10,7 +10,6 @@ from functools import lru_cache
 from itertools import chain
 from typing import Iterator, NamedTuple, Optional, Sequence, Union
 
-from nllc_tools.base.grouping import grouped
 from nllc_tools.rustc.mir.spans import Span, span_of
 from nllc_tools.rustc.mir.statement_reader import read_line
 from nllc_tools.rustc.mir.statements import Assign, Call, Constant, Foreign, Leave, Line, Place
@@ -86,17 +85,23 @@ class Body:
     def line(self, location: Location) -> Line:
         """What the statement or terminator says, which is read once that is asked for."""
         if location not in self.lines:
-            is_last = Location(location.block, location.index + 1) not in self.statements
-            self.lines[location] = read_line(self.statements[location].text, is_last)
+            self.lines[location] = read_line(self.statements[location].text, self.is_end(location))
         return self.lines[location]
 
-    def leaves(self, location: Location) -> bool:
-        """Whether the caller goes on behind it: it has the result, catches a panic, or drops a coroutine.
+    def is_end(self, location: Location) -> bool:
+        """Whether it is the terminator of its block."""
+        return Location(location.block, location.index + 1) not in self.statements
+
+    def ends(self) -> Iterator[tuple[Location, Line]]:
+        """The terminators, in order."""
+        return ((location, self.line(location)) for location in sorted(filter(self.is_end, self.statements)))
+
+    def exits(self) -> list[Location]:
+        """Those behind which the caller goes on: it has the result, catches a panic, or drops a coroutine.
 
         (`return`; `resume` ends each way on which a panic goes out of the function.)
         """
-        line = self.line(location)
-        return isinstance(line, Leave) and line.is_return
+        return [location for location, line in self.ends() if isinstance(line, Leave) and line.is_return]
 
     def type_of(self, local: int) -> Type:
         """The type of a variable, as far as it is understood."""
@@ -126,11 +131,11 @@ class Body:
 
 def methods_on_results(body: Body) -> Iterator[tuple[Location, Span]]:
     """The assignments to a variable on which the block that has them calls a function at its end, and where that stands."""
-    for locations in grouped((location.block, location) for location in sorted(body.statements)).values():
-        *before, end = locations
-        method, call = body.statements[end].constant, body.line(end)
+    for end, call in body.ends():
+        method = body.statements[end].constant
         receiver = call.operands[0] if method and isinstance(call, Call) and call.operands else None
         if method and isinstance(receiver, Place) and not receiver.steps:
+            before = (Location(end.block, index) for index in range(end.index))
             given = [(one, line) for one in before if isinstance(line := body.line(one), Assign) and not line.place.steps]
             lent = {line.source.local for _, line in given if line.place.local == receiver.local and reborrows(line)}
             yield from ((one, method) for one, line in given

@@ -19,20 +19,13 @@ BEGIN = re.compile(r"@.*?:(\d+):(\d+): \d+:\d+")
 TAIL = ".-------.nll.0.mir"
 
 
-class Use(NamedTuple):
-    """Where a closure uses what it takes, as far as is known, and whether only what is behind a reference in it."""
-
-    span: Optional[Span] = None
-    is_behind: bool = False
-    is_of_async: bool = False
-
-
 class Capture(NamedTuple):
-    """That a closure takes a variable: where the closure stands, how it uses that, and whether it is an async one."""
+    """That a closure takes a variable: where the closure stands; where it uses that, as far as is known, whether only what is
+    behind a reference in it, and whether it is an async one."""
 
-    home: Optional[Span]
-    use: Optional[Span]
-    is_behind: bool
+    home: Optional[Span] = None
+    use: Optional[Span] = None
+    is_behind: bool = False
     is_async: bool = False
 
 
@@ -100,10 +93,10 @@ def is_plain_borrow(line: Assign) -> bool:
 
 def capture_at(mir: str, made: Made, place: Place) -> Capture:
     """What a closure takes by an operand."""
-    return Capture(made.span and made.home_in(made.span), *use_inside(mir, made.closure.word, made.index_of(place)))
+    return use_inside(mir, made.closure.word, made.index_of(place))._replace(home=made.span and made.home_in(made.span))
 
 
-def use_inside(mir: str, closure: str, index: Optional[int]) -> Use:
+def use_inside(mir: str, closure: str, index: Optional[int]) -> Capture:
     """The first statement of the closure that names its field of this number; of one in it, what that uses."""
     for path in closures_of(mir):
         inner = read_body(path)
@@ -112,8 +105,8 @@ def use_inside(mir: str, closure: str, index: Optional[int]) -> Use:
         if own and (closure in own.type or is_async) and os.path.isfile(path) and index is not None:
             named = {one: found for one in sorted(inner.statements) if (found := list(behind_field(inner, one, index)))}
             uses = [deeper(path, inner, one, any(found)) for one, found in named.items()]
-            return Use(uses[0].span, all(use.is_behind for use in uses), is_async) if uses else Use(is_of_async=is_async)
-    return Use()
+            return Capture(None, uses[0].use if uses else None, bool(uses) and all(use.is_behind for use in uses), is_async)
+    return Capture()
 
 
 def behind_field(closure: Body, location: Location, index: int) -> Iterator[bool]:
@@ -146,9 +139,9 @@ def closure_with(body: Body, place: Place) -> Optional[Made]:
     return next((made for made in all_made if made and made.index_of(place) is not None), None)
 
 
-def deeper(mir: str, body: Body, location: Location, is_behind: bool) -> Use:
+def deeper(mir: str, body: Body, location: Location, is_behind: bool) -> Capture:
     """Where a statement of a closure stands; where it borrows for a closure inside, the use in there."""
     target = target_of(body.line(location))
     there = closure_with(body, target) if target is not None and not target.steps else None
-    use = capture_at(mir, there, target) if there and target is not None else Capture(None, None, False)
-    return Use(use.use or body.statements[location].span, use.is_behind or is_behind)
+    inner = capture_at(mir, there, target) if there and target is not None else Capture()
+    return Capture(None, inner.use or body.statements[location].span, inner.is_behind or is_behind)

@@ -5,6 +5,7 @@ from bisect import bisect_left
 from dataclasses import dataclass, field
 from functools import lru_cache
 
+from nllc_tools.base.files import text_or_nothing
 from nllc_tools.rustc.mir.body import Reason
 from nllc_tools.rustc.mir.scanner import closing_of
 from nllc_tools.rustc.mir.spans import Span, Spot
@@ -46,11 +47,7 @@ class Desugarings:
 @lru_cache(16)
 def desugarings_of(source: str, path: str) -> Desugarings:
     """Those of a file, by rustc's name of it and by its path; without the file no macro is known."""
-    try:
-        with open(path, encoding="utf-8") as file:
-            text = file.read()
-    except (OSError, UnicodeDecodeError):
-        text = ""
+    text = text_or_nothing(path)
     return Desugarings(source, text.split("\n"), declarations(text))
 
 

@@ -35,6 +35,12 @@ class Scanner:
             self.at = found.end()
         return found
 
+    def must_match(self, pattern: re.Pattern[str]) -> re.Match[str]:
+        found = self.match(pattern)
+        if not found:
+            raise self.strange()
+        return found
+
     def end(self) -> None:
         if self.at != len(self.text):
             raise self.strange()

@@ -33,10 +33,7 @@ class Lines(Reader):
     def place(self) -> Place:
         if self.takes("("):
             return self.bracketed()
-        found = self.match(LOCAL)
-        if not found:
-            raise self.strange()
-        return self.indexed(Place(int(found[1])))
+        return self.indexed(Place(int(self.must_match(LOCAL)[1])))
 
     def indexed(self, place: Place) -> Place:
         while found := self.match(INDEX):
@@ -52,20 +49,16 @@ class Lines(Reader):
         place = self.place()
         if found := self.match(VARIANT):
             return place.onward(Step("variant", found[1]))
-        found = self.match(FIELD)
-        if not found:
-            raise self.strange()
-        type = self.type()
+        number, type, variant = int(self.must_match(FIELD)[1]), self.type(), ""
         self.must(")")
-        variant = ""
         if place.steps and place.steps[-1].kind == "variant":
             place, variant = Place(place.local, place.steps[:-1]), place.steps[-1].variant
-        return self.indexed(place.onward(Step("field", variant, int(found[1]), type)))
+        return self.indexed(place.onward(Step("field", variant, number, type)))
 
     def operand(self) -> Operand:
         if self.takes("move "):
             return self.place()._replace(is_moved=True)
-        if self.takes("copy ") or LOCAL.match(self.text, self.at):
+        if self.takes("copy ") or self.sign() == "(" or LOCAL.match(self.text, self.at):    # `discriminant(PLACE)` has no word
             return self.place()
         if self.takes("const ") or self.text.startswith("ConstValue(", self.at):
             return self.constant()
@@ -73,14 +66,11 @@ class Lines(Reader):
 
     def constant(self) -> Constant:
         """`ConstValue(..: T)`, a literal, or the name of a constant."""
-        begin = self.at
-        if self.match(VALUE):
-            type = self.type()
-            self.must(")")
-            return Constant("value", type)
-        self.skip(",)};]")
-        text = self.text[begin:self.at]
-        return Constant(text, None)
+        if not self.match(VALUE):
+            return Constant(self.skipped(",)};]"))
+        type = self.type()
+        self.must(")")
+        return Constant("value", type)
 
     def operands(self, closer: str) -> tuple[Operand, ...]:
         found: list[Operand] = []
@@ -104,9 +94,10 @@ class Lines(Reader):
             kind = {"mut": "mut", None: "ref"}.get(found[2], "fake")
             return Assign(place, kind, (self.place(),), region=int(found[1]) if found[1] else "^")
         if found := self.match(PAIR):
-            return self.pair(place, found[0])
+            return Assign(place, "pair", self.operands(")"), word=found[0][:-1])
         if self.text.startswith(OPERAND, self.at):
-            return self.used(place)
+            operand = self.operand()
+            return self.cast(place, operand) if self.takes(" as ") else Assign(place, "use", (operand,))
         if self.takes("("):
             return Assign(place, "tuple", self.operands(")"))
         if self.takes("["):
@@ -117,22 +108,8 @@ class Lines(Reader):
             return Assign(place, "use", self.operands(")"))
         return self.made(place)
 
-    def pair(self, place: Place, word: str) -> Assign:
-        if word not in ("discriminant(", "Len("):
-            return Assign(place, "pair", self.operands(")"), word=word[:-1])
-        found = self.place()
-        self.must(")")
-        return Assign(place, "pair", (found,), word=word[:-1])
-
-    def used(self, place: Place) -> Assign:
-        operand = self.operand()
-        return self.cast(place, operand) if self.takes(" as ") else Assign(place, "use", (operand,))
-
     def cast(self, place: Place, operand: Operand) -> Assign:
-        type = self.type()
-        cast = self.match(CAST)
-        if not cast:
-            raise self.strange()
+        type, cast = self.type(), self.must_match(CAST)
         return Assign(place, "cast", (operand,), type, cast[1] or cast[2])
 
     def asserted(self) -> tuple[Operand, ...]:
@@ -150,25 +127,18 @@ class Lines(Reader):
 
     def called(self) -> Operand:
         """What is called, with the bracket behind it: an operand, or the name of a function."""
-        begin = self.at
-        if self.text.startswith(OPERAND, begin):
-            function = self.operand()
-        else:
-            self.skip("(")
-            function = Constant(self.text[begin:self.at])
+        function = self.operand() if self.text.startswith(OPERAND, self.at) else Constant(self.skipped("("))
         self.must("(")
         return function
 
     def array(self, place: Place) -> Assign:
-        if self.takes("]"):
-            return Assign(place, "array")
-        first = self.operand()
+        first = () if self.sign() == "]" else (self.operand(),)
         if self.takes("; "):
             self.skip("]")
             self.must("]")
-            return Assign(place, "repeat", (first,))
+            return Assign(place, "repeat", first)
         self.takes(", ")
-        return Assign(place, "array", (first, *self.operands("]")))
+        return Assign(place, "array", (*first, *self.operands("]")))
 
     def made(self, place: Place) -> Assign:
         """`Option::<T>::Some(move _1)`, `a::B { c: move _2 }`, `C`: the type, then the variant, if it is an enum's.
@@ -176,14 +146,9 @@ class Lines(Reader):
         Where the last name is that of a variant the type has the names before it; which it is the place says.
         """
         type = self.path()
-        if self.takes("("):
-            found = self.operands(")")
-        elif self.takes(" { "):
-            found = self.operands("}")
-        elif self.takes(" as "):
+        if self.takes(" as "):
             return self.cast(place, Constant(type.name))
-        else:
-            found = ()
+        found = self.operands(")") if self.takes("(") else self.operands("}") if self.takes(" { ") else ()
         return Assign(place, "make", found, type)
 
 

@@ -14,6 +14,7 @@ BINDER = re.compile(r"for<[^<>]*> ")
 QUALIFIER = re.compile(r"(?:safe |unsafe |async |const |extern \"[^\"]*\" |#\[[^\]]*\] )+")
 WORD = re.compile(r"[A-Za-z_]\w*(?:/?#\d+)?")
 CLOSURE = re.compile(r"\{[a-z -]+@[^{}]*\}")
+NAMED = re.compile(r"[A-Za-z_]\w*(<[^=]*>)? = ")
 BRACED = re.compile(r"\{[a-z_ ]+(?:#\d+)?\}|\{closure@[^{}]*\}")
 CONSTANT = re.compile(r"-?\d\w*|true\b|false\b|'.'|\{const|ValTree\(|ConstValue\(|Const\b|Unevaluated|Expr\(|\{\w+(?:::|/)")
 
@@ -45,32 +46,19 @@ class Reader(Scanner):
 
     def type(self) -> Type:
         """The type that begins here."""
-        sign = self.sign()
-        if sign == "&":
-            return self.reference()
-        if sign == "*":
-            return self.pointer()
-        if sign == "[":
-            return self.slice()
-        if sign == "(":
-            return self.tuple()
-        if sign == "{":
-            return self.closure()
-        if sign == "!":
-            self.at += 1
+        forms = {"&": self.reference, "*": self.pointer, "[": self.slice, "(": self.tuple, "{": self.closure, "<": self.path}
+        if found := forms.get(self.sign()):
+            return found()
+        if self.takes("!"):
             return PLAIN
-        if sign == "<":
-            return self.path()
         self.match(BINDER)
         if self.text.startswith(("dyn ", "dyn* "), self.at):
             return self.object()
-        if self.text.startswith("impl ", self.at):
-            return self.parameter()
+        if self.text.startswith("impl ", self.at):      # of an argument: a type parameter like others
+            return Type("plain", self.skipped(",>)]};"))
         if self.text.startswith(("fn(", "unsafe ", "extern ", "safe ", "#["), self.at):
             return self.function()
-        if self.text.startswith("Opaque(", self.at):
-            return self.opaque()
-        return self.path()
+        return self.opaque() if self.text.startswith("Opaque(", self.at) else self.path()
 
     def region(self) -> Optional[Region]:
         """The region that stands here, if one does."""
@@ -88,16 +76,14 @@ class Reader(Scanner):
         self.must("&")
         region = self.region()
         self.takes(" ")
-        if region is None:
-            region = "^"
         form = "mut" if self.takes("mut ") else "ref"
-        return Type(form, "", (region, self.type()))
+        return Type(form, "", ("^" if region is None else region, self.type()))
 
     def pointer(self) -> Type:
-        if self.takes("*const "):
-            return Type("pointer", "", (self.type(),))
-        self.must("*mut ")
-        return Type("mut pointer", "", (self.type(),))
+        form = "pointer" if self.takes("*const ") else "mut pointer"
+        if form == "mut pointer":
+            self.must("*mut ")
+        return Type(form, "", (self.type(),))
 
     def slice(self) -> Type:
         self.must("[")
@@ -159,10 +145,6 @@ class Reader(Scanner):
                 break
         return Type("dyn", " + ".join(names), (*parts, region))
 
-    def parameter(self) -> Type:
-        """`impl Trait` of an argument: a type parameter like others."""
-        return Type("plain", self.skipped(",>)]};"))
-
     def opaque(self) -> Type:
         self.must("Opaque(")
         name = self.skipped(",")
@@ -184,15 +166,14 @@ class Reader(Scanner):
         upvars, form = UNIT, "coroutine"
         signature: tuple[Type, ...] = ()
         while self.takes(" "):
-            word = self.match(WORD)
-            if not word or not self.takes("="):
-                raise self.strange()
-            if word[0] == "upvar_tys":
+            word = self.must_match(WORD)[0]
+            self.must("=")
+            if word == "upvar_tys":
                 taken = self.type()
                 upvars = taken if taken.form == "tuple" else Type("tuple", "", (taken,))    # of one the brackets are kept
-            elif word[0] == "closure_sig_as_fn_ptr_ty":
+            elif word == "closure_sig_as_fn_ptr_ty":
                 form, signature = "closure", (self.type(),)
-            elif word[0] == "closure_kind_ty":
+            elif word == "closure_kind_ty":
                 self.type()
             else:
                 self.skip(" }")
@@ -231,32 +212,21 @@ class Reader(Scanner):
 
     def segment(self, names: list[str], parts: list[Part]) -> None:
         """A name, or arguments, or what stands for a name."""
-        if self.text.startswith("<impl ", self.at):
-            self.must("<impl ")
-            begin = self.at
-            self.skip(">")
-            inside = self.text[begin:self.at]
+        if self.takes("<impl "):
+            inside = self.skipped(">")
             self.must(">")
             parts.extend(int(found) for found in re.findall(r"'\?(\d+)", inside))
             names.append("<impl>" if inside.startswith("at ") else f"<impl {re.sub(r'.?[?]?[0-9]+', '', inside)}>")
-        elif self.sign() == "<":
-            self.must("<")
+        elif self.takes("<"):
             parts.extend(self.arguments(">"))
         elif self.sign() == "{":
-            word = self.match(BRACED)
-            if not word:
-                raise self.strange()
-            names.append(word[0])
+            names.append(self.must_match(BRACED)[0])
         else:
-            word = self.match(WORD)
-            if not word:
-                raise self.strange()
-            names.append(word[0].partition("/")[0])
-            if self.sign() == "<":
-                self.must("<")
+            word = self.must_match(WORD)[0]
+            names.append(word.partition("/")[0])
+            if self.takes("<"):
                 parts.extend(self.arguments(">"))
-            elif self.sign() == "(" and word[0][:2] == "Fn":
-                self.must("(")
+            elif word[:2] == "Fn" and self.takes("("):
                 parts.extend(self.listed(")"))
                 if self.takes(" -> "):
                     parts.append(self.type())
@@ -265,10 +235,7 @@ class Reader(Scanner):
         """Whether what stands here is no type; between braces there is a closure, or an expression."""
         if self.sign() != "{":
             return CONSTANT.match(self.text, self.at) is not None
-        begin = self.at
-        self.at += 1
-        inside = self.skipped("}")
-        self.at = begin
+        inside = Scanner(self.text, self.at + 1).skipped("}")
         return "upvar_tys=" not in inside and "@" not in inside
 
     def arguments(self, closer: str) -> Iterator[Part]:
@@ -280,8 +247,6 @@ class Reader(Scanner):
             elif self.is_constant():
                 self.skip("," + closer)
             else:
-                named = re.compile(r"[A-Za-z_]\w*(<[^=]*>)? = ").match(self.text, self.at)
-                if named:
-                    self.at = named.end()
+                self.match(NAMED)
                 yield self.type()
             self.takes(", ") or self.takes(",")

@@ -37,41 +37,32 @@ def lines(text: Text) -> Iterator[str]:
 
 def body_lines(text: Text) -> Iterator[str]:
     """The blocks: those of rustc, cut behind each call that is a statement there."""
-    starts, count = numbered(text.points)
-    stop = count
+    blocks = list(cut(text.points))
+    starts = {block[0].location.block: number for number, block in enumerate(blocks) if block[0].location.index == 0}
     has_stop = any(STOP in (point.exits or ()) for point in text.points)
-    yield f"blocks {count + has_stop}"
-    block = -1
+    yield f"blocks {len(blocks) + has_stop}"
     line = None
-    is_new = True
-    for point in text.points:
-        if is_new:
-            block += 1
-            yield f"block bb{block}" if point.location.index else f"# rustc's bb{point.location.block}\nblock bb{block}"
-        span = text.function.body.statements[point.location].span
-        if span is not None and span.first != line:
-            line = span.first
-            yield f"# line {line}"
-        if point.exits is None:
-            yield point.text
-        else:
-            targets = [block + 1 if exit == NEXT else stop if exit == STOP else starts[exit] for exit in point.exits]
+    for number, block in enumerate(blocks):
+        begin = block[0].location
+        yield f"block bb{number}" if begin.index else f"# rustc's bb{begin.block}\nblock bb{number}"
+        for point in block:
+            span = text.function.body.statements[point.location].span
+            if span is not None and span.first != line:
+                line = span.first
+                yield f"# line {line}"
+            targets = [number + 1 if exit == NEXT else len(blocks) if exit == STOP else starts[exit] for exit in point.exits or ()]
             yield point.text % tuple(f"bb{target}" for target in targets) if targets else point.text
-        is_new = point.exits is not None
     if has_stop:
-        yield f"block bb{stop}"
-        yield "stop"
+        yield f"block bb{len(blocks)}\nstop"
 
 
-def numbered(points: list[Point]) -> tuple[dict[int, int], int]:
-    """The number of the text's block with which each of rustc's begins, and how many blocks there are."""
-    starts: dict[int, int] = {}
-    count = 0
-    is_new = True
+def cut(points: list[Point]) -> Iterator[list[Point]]:
+    """The points by blocks of the text."""
+    block: list[Point] = []
     for point in points:
-        if is_new:
-            count += 1
-        if point.location.index == 0:
-            starts[point.location.block] = count - 1
-        is_new = point.exits is not None
-    return starts, count
+        block.append(point)
+        if point.exits is not None:
+            yield block
+            block = []
+    if block:
+        yield block
