@@ -53,9 +53,9 @@ def numbered(both: Both, found) -> set[tuple[int, int]]:
 
 def of_bounds(both: Both) -> set[tuple[int, int]]:
     """Where a variable is live, and rustc says that a region of its type isn't: a bound names those that are."""
-    live = both.function.body.live
+    body = both.function.body
     return numbered(both, ((region, location) for region, location in bases(both.tables)
-                           if location not in live.at(region)))
+                           if location not in body.live_at(region)))
 
 
 def of_drops(both: Both) -> set[tuple[int, int]]:

@@ -15,7 +15,7 @@ from nllc_tools.model.points import Points
 from nllc_tools.model.problem import Problem as FactsProblem
 from nllc_tools.model.regions import Regions
 from nllc_tools.model.typed_function import TypedFunction
-from nllc_tools.rustc.mir.function import Function, read_function
+from nllc_tools.rustc.mir.function import Function
 from nllc_tools.rustc.tables import Tables
 from nllc_tools.texts.facts.conversion import problem_of
 from nllc_tools.texts.facts.writer import facts_text
@@ -72,7 +72,7 @@ class Reading:
     """What rustc left of a function, and the problem of its facts text."""
 
     def __init__(self, dump):
-        self.function = read_function(dump)
+        self.function = Function(dump)
         typed = TypedFunction(dump)
         self.tables, self.points, self.regions = typed.tables, typed.points, typed.regions
         self.facts, self.text, self.numbers = facts_problem(typed)

@@ -41,11 +41,6 @@ class Regions:
             region = self.leader[region]
         return region
 
-    def classes(self, regions: Iterable[int]) -> list[int]:
-        """The classes of these regions that aren't universal, ascending."""
-        found = {self.find(region) for region in regions}
-        return sorted(region for region in found if not self.is_universal(region))
-
 
 def name_regions(body: Body, regions: Iterable[int]) -> dict[int, str]:
     """The name of each region, without the `'`: its own, or `r5` for rustc's `'?5`."""

@@ -126,11 +126,9 @@ def read_lines(path: str) -> list[str]:
     try:
         with open(path, encoding="utf-8") as file:
             return file.read().split("\n")
-    except OSError:
-        raise Refusal(f"{path} isn't there: this rustc's MIR dumps have another form; "
-                      f"1.95 is known to work") from None
-    except UnicodeDecodeError:
-        raise Refusal(f"{path} isn't UTF-8: this rustc's MIR dumps have another form; 1.95 is known to work") from None
+    except (OSError, UnicodeDecodeError) as error:
+        what = "there" if isinstance(error, OSError) else "UTF-8"
+        raise Refusal(f"{path} isn't {what}: this rustc's MIR dumps have another form; 1.95 is known to work") from None
 
 
 def read_header(body: Body, line: str) -> None:

@@ -61,8 +61,9 @@ class Taken(NamedTuple):
 def made_at(body: Body, location: Location) -> Optional[Made]:
     """The closure that a statement makes, if it does."""
     line = body.line(location) if " = {" in body.statements[location].text else None
-    is_closure = isinstance(line, Assign) and line.kind == "make" and line.type is None
-    return Made(line, body.statements[location].span) if is_closure and isinstance(line, Assign) else None
+    if isinstance(line, Assign) and line.kind == "make" and line.type is None:
+        return Made(line, body.statements[location].span)
+    return None
 
 
 def capture_of(dump: Dump, body: Body, variable: Optional[int], uses: Collection[Location]) -> Optional[Capture]:

@@ -228,7 +228,7 @@ def read_terminator(text: str) -> Terminator:
     place = reader.place()
     reader.must(" = ")
     if reader.takes("yield("):
-        return Foreign(NotSaid("a coroutine"), reader.operands(")"), place, blocks["resume"])
+        return Foreign(NotSaid("a coroutine"), reader.operands(")"), place, blocks.get("resume"))
     found = Call(place, reader.called(), reader.operands(")"), blocks.get("return"), blocks.get("unwind"))
     reader.end()
     return found
@@ -240,3 +240,5 @@ def read_line(text: str, is_terminator: bool) -> Line:
         return read_terminator(text) if is_terminator else read_statement(text)
     except NotSaid as reason:
         return Foreign(reason)
+    except RecursionError:
+        return Foreign(NotSaid("a type that isn't understood", text[:60]))

@@ -37,7 +37,7 @@ def type_or_plain(text: str) -> Type:
     """The type of a text; one without parts where it isn't understood."""
     try:
         return read_type(text)
-    except NotSaid:
+    except (NotSaid, RecursionError):
         return PLAIN
 
 
@@ -110,15 +110,14 @@ class Reader(Scanner):
         """`fn(A, B) -> R`, which a path between braces may follow; `for<..>` is behind."""
         self.match(QUALIFIER)
         self.must("fn(")
-        parts = list(self.listed(")"))
-        parts.append(self.type() if self.takes(" -> ") else UNIT)
+        inputs = tuple(self.listed(")"))
+        signature = Type("fn", "", (*inputs, self.type() if self.takes(" -> ") else UNIT))
         if not self.takes(" {"):
-            return Type("fn", "", tuple(parts))
+            return signature
         path = self.path()
         self.must("}")
-        signature = Type("fn", "", tuple(parts))
-        others = set(path.regions()) - set(signature.regions())
-        return Type("function", path.name, (Type("path", "", tuple(one for one in path.regions() if one in others)), signature))
+        others = tuple(one for one in path.regions() if one not in signature.regions())
+        return Type("function", path.name, (Type("path", "", others), signature))
 
     def listed(self, closer: str) -> Iterator[Type]:
         while not self.takes(closer):
