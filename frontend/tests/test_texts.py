@@ -102,6 +102,7 @@ class Explain(Texts):
         (HEAD + "region 'x\nregion 'x\n", "4:8: duplicate: `'x` is declared already, in line 3\n    region 'x"),
         (HEAD + "region 'static\n", "3:8: duplicate: `'static` is declared already, from the start\n    region 'static"),
         (HEAD + "  base 'y 0\n", "3:8: unknown: `'y` is no region that an earlier line declares\n    base 'y 0"),
+        (HEAD + "outlives 'static 'b\n", "3:18: unknown: `'b` is no region that an earlier line declares\n    outlives 'static 'b"),
         (HEAD + "base 'x\n", "3:1: syntax: `base` lines are written base 'x P\n    base 'x"),
         (HEAD + "end;\n", "3:4: syntax: `;` is part of no token\n    end;"),
         (HEAD + "points 3\n", "3:1: syntax: `points` is out of order: one `points` line, then `universal`, `outlives` and "
