@@ -74,7 +74,7 @@ class Sentences(unittest.TestCase):
 
     def test_what_the_balance_counts(self):
         content = content_of(ONE_WAY, schedule(*LOADED[:2], "push 0 1"), 2)
-        counted = [[plain(event_words.way_words(content.facts, *way)) for way in under_way(state)]
+        counted = [[plain(event_words.way_words(content.facts, way)) for way in under_way(state)]
                    for state in content.run.states]
         self.assertEqual(counted, [
             ["the load of owner 0", "the load of owner 1"],

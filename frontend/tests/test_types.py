@@ -1,4 +1,4 @@
-"""What pyproject.toml names has types throughout, and mypy finds nothing in it; pyflakes finds nothing in the package."""
+"""The package has types throughout, and neither mypy nor pyflakes finds anything in it."""
 
 import os
 import shutil

@@ -49,7 +49,7 @@ def event_part(content: Content, number: int) -> str:
         head = ("<h2>Before the first event</h2><p>No owner has done anything yet. Each owes for its load, "
                 f"so the balance is {state.balance}.</p>")
     grown = f"{taken_part(content, number)}{grown_part(content, number)}" if state.answer == "done" else ""
-    rows = [sentence(event_words.way_words(content.facts, *way)) for way in under_way(state)]
+    rows = [sentence(event_words.way_words(content.facts, way)) for way in under_way(state)]
     return (f'<article class="said" data-from="{number}" data-to="{number + 1}">{head}{grown}'
             f"<h3>The balance counts {state.balance}</h3>"
             f'{row_list(rows) if rows else "<p>Nothing is under way.</p>"}</article>')

@@ -1,12 +1,17 @@
 """Events in sentences. A sentence is a list of strings; those that are `Code` are shown as code."""
 
 from dataclasses import dataclass
-from typing import Iterable, Optional
+from typing import Iterable
 
 from nllc_tools.base.sentences import Code, joined, plural
 from nllc_tools.model.facts import Facts
 from nllc_tools.model.region_names import tick
-from nllc_tools.texts.schedule_states import Event, Growth, Run, Seat, State
+from nllc_tools.texts.schedule_states import Event, Growth, Run, Seat, State, UnderWay
+
+# What counts in the balance.
+WAYS = {"load": "the load of owner {0.owner}", "item": "what owner {0.owner} works on",
+        "out": ", which owner {0.owner} still has to send to owner {0.reader}",
+        "box": ", in the box from owner {0.owner} to owner {0.reader}"}
 
 
 def element_name(facts: Facts, element: int) -> str:
@@ -37,13 +42,10 @@ def words_of(event: Event) -> str:
     return " ".join([event.word, *map(str, numbers)])
 
 
-def way_words(facts: Facts, kind: str, owner: int, reader: Optional[int], one: Optional[Growth]) -> list[str]:
+def way_words(facts: Facts, one: UnderWay) -> list[str]:
     """One thing that counts in the balance."""
-    if one is None:
-        return [f"the load of owner {owner}" if kind == "load" else f"what owner {owner} works on"]
-    place = f"which owner {owner} still has to send to owner {reader}" if kind == "out" else \
-        f"in the box from owner {owner} to owner {reader}"
-    return [growth(facts, one), f", {place}"]
+    said = WAYS[one.kind].format(one)
+    return [growth(facts, one.growth), said] if one.growth else [said]
 
 
 @dataclass(frozen=True)
