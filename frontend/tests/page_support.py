@@ -1,23 +1,17 @@
-"""What the tests of pages share: small texts, values of the slow reference, random problems.
-"""
+"""What the tests of pages share: small texts, values of the slow reference, random problems."""
 
 import os
 import random
-import sys
-import tempfile
-import unittest
 
-HERE = os.path.dirname(os.path.abspath(__file__))
-ROOT = os.path.dirname(os.path.dirname(HERE))
-sys.path[:0] = [os.path.join(ROOT, "frontend"), os.path.join(ROOT, "check", "reference")]
+from paths import EXAMPLES, ROOT, TESTS  # noqa: F401 (others have them from here)
 
-import reference  # noqa: E402 (the paths stand above)
+import reference
+from rooms import Room
 
-from nllc_tools.texts.facts.reader import read_facts  # noqa: E402
-from nllc_tools.texts.facts.values import read_values  # noqa: E402
+from nllc_tools.texts.facts.reader import read_facts
+from nllc_tools.texts.facts.values import read_values
 
-SAMPLES = os.path.join(HERE, "page_samples")
-EXAMPLES = os.path.join(ROOT, "examples")
+SAMPLES = os.path.join(TESTS, "page_samples")
 
 
 def text(points, *lines, version=1):
@@ -65,23 +59,9 @@ def random_text(seed, places=()):
     return text(points, *lines, version=2)
 
 
-class Folder(unittest.TestCase):
+class Folder(Room):
     """Each test has a folder of its own; `nllc` is a script there that runs the reference."""
 
     def setUp(self):
-        folder = tempfile.TemporaryDirectory()
-        self.addCleanup(folder.cleanup)
-        self.folder = folder.name
-        self.program("nllc", f'exec "{sys.executable}" "{ROOT}/check/reference/reference.py" "$@"')
-
-    def path(self, *name):
-        return os.path.join(self.folder, *name)
-
-    def write(self, name, data):
-        with open(self.path(name), "wb") as file:
-            file.write(data)
-        return self.path(name)
-
-    def program(self, name, body):
-        self.write(name, f"#!/bin/sh\n{body}\n".encode())
-        os.chmod(self.path(name), 0o755)
+        super().setUp()
+        self.slow()

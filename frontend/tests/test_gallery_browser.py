@@ -3,16 +3,13 @@ and with two sets of fonts; and every control of one page of each kind."""
 
 import os
 import shutil
-import sys
 import tempfile
 import unittest
 import xml.etree.ElementTree as ElementTree
 
 from test_gallery import make
 
-sys.path.insert(0, os.path.join(os.path.dirname(os.path.abspath(__file__)), "browser"))
-
-import devtools  # noqa: E402 (the path stands above)
+import devtools
 
 HAS_ALL = bool(shutil.which("rustc")) and any(map(shutil.which, devtools.NAMES))
 ROOM = tempfile.TemporaryDirectory()

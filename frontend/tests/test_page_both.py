@@ -8,12 +8,12 @@ from dataclasses import replace
 
 from facts_support import stored_texts
 from page_support import EXAMPLES, Folder, file_bytes, random_text, reference, solved, text
-from quick_solver import quick_values
+from quick_solver import quick_report, quick_values
 
 from nllc_tools.base import nllc
 from nllc_tools.base.refusal import Refusal
 from nllc_tools.base.sentences import plain
-from nllc_tools.judge import two_answers
+from nllc_tools.judge import verdicts
 from nllc_tools.judge.chain_sentences import step_brief, step_sentence
 from nllc_tools.judge.content import Content, explained
 from nllc_tools.model.chains import chain, check
@@ -24,7 +24,7 @@ from nllc_tools.texts.facts.reader import read_facts
 from nllc_tools.views.html.page import page
 from nllc_tools.views.html.parts import answers_part
 from nllc_tools.views.html.parts.region_list import region_list
-from nllc_tools.views.terminal import second_answer
+from nllc_tools.views.terminal.explaining import second_answer
 
 
 def second(points, *lines):
@@ -98,10 +98,10 @@ class Both(unittest.TestCase):
 
     def test_a_fault_in_the_second_alone(self):
         content = with_both(file_bytes(EXAMPLES, "overwritten.facts"))
-        self.assertEqual(two_answers.counted(content), "no fault")
-        self.assertEqual(two_answers.counted(content.everywhere), "1 fault")
-        self.assertEqual([content.facts.names[r] for r in two_answers.differing(content, content.everywhere)], ["a", "p"])
-        told = list(second_answer.lines(content))
+        self.assertEqual(verdicts.in_words(content), "no fault")
+        self.assertEqual(verdicts.in_words(content.everywhere), "1 fault")
+        self.assertEqual([content.facts.names[r] for r in verdicts.differing(content, content.everywhere)], ["a", "p"])
+        told = list(second_answer(content))
         self.assertEqual(told[0], "with each constraint at all points: 1 fault, in place of no fault")
         made = page(content)
         self.assertIn('<section class="answers"', made)
@@ -114,7 +114,7 @@ class Both(unittest.TestCase):
 
     def test_both_the_same(self):
         content = with_both(text(1, "universal 'a", "return 0", "constraint 'static 'a 0"))
-        self.assertEqual(list(second_answer.lines(content)), [])
+        self.assertEqual(list(second_answer(content)), [])
         self.assertIn("Each region holds the same in both.", answers_part.both(content))
 
     def test_no_second_answer(self):
@@ -155,7 +155,6 @@ class Command(Folder):
 
     def test_of_which_nothing_is_told_is_known_without_values(self):
         """Of all stored texts: what is said of one without reading it is what is said of it when it is read."""
-        from errors_support import quick_report
         from nllc_tools.base import nllc
         from nllc_tools.judge import silence
         from nllc_tools.judge.content import content_of

@@ -3,7 +3,6 @@
 import os
 import re
 import shutil
-import sys
 import tempfile
 import unittest
 from unittest import mock
@@ -11,22 +10,20 @@ from unittest import mock
 from page_support import EXAMPLES, SAMPLES, file_bytes, solved
 from test_page_glance import LOAN, SOURCE, content_of as loan_content
 
-sys.path.insert(0, os.path.join(os.path.dirname(os.path.abspath(__file__)), "browser"))
+import devtools
+from big_text import facts_text
 
-import devtools  # noqa: E402 (the path stands above)
-from big_text import facts_text  # noqa: E402
-
-from nllc_tools.base import nllc  # noqa: E402
-from nllc_tools.judge.content import Content, Fault  # noqa: E402
-from nllc_tools.model.chains import chain  # noqa: E402
-from nllc_tools.model.faults import faults  # noqa: E402
-from nllc_tools.texts.facts.reader import read_facts  # noqa: E402
-from nllc_tools.model.values import Values  # noqa: E402
-from nllc_tools.texts.source import Source  # noqa: E402
-from nllc_tools.views.html.index import index_parts  # noqa: E402
-from nllc_tools.views.html.index_rows import Row  # noqa: E402
-from nllc_tools.views.html.page import page  # noqa: E402
-from nllc_tools.views.html.writing import fill  # noqa: E402
+from nllc_tools.base import nllc
+from nllc_tools.judge.content import Content, Fault
+from nllc_tools.model.chains import chain
+from nllc_tools.model.faults import faults
+from nllc_tools.texts.facts.reader import read_facts
+from nllc_tools.model.values import Values
+from nllc_tools.texts.source import Source
+from nllc_tools.views.html.index import index_parts
+from nllc_tools.views.html.index_rows import Row
+from nllc_tools.views.html.page import page
+from nllc_tools.views.html.writing import fill
 
 WIDTHS = (320, 414, 768, 1280, 1920)
 OVERFLOWING = """[...document.querySelectorAll("html, main, .lists, .fault, .step, .chosen, table")]

@@ -1,23 +1,21 @@
 """The command: the page that it writes, and each refusal, after which nothing is left."""
 
-import io
 import os
 import stat
 import subprocess
 import sys
 import time
 import unittest
-from contextlib import redirect_stderr, redirect_stdout
 from unittest import mock
 
-from page_support import ROOT, SAMPLES, Folder, file_bytes, text
+from page_support import SAMPLES, Folder, file_bytes, text
+from paths import ROOT
+from rooms import REFERENCE
 
 from nllc_tools.base import nllc
 from nllc_tools.commands import answers
 from nllc_tools.commands.page import main
 from nllc_tools.views.terminal import finding_lines
-
-REFERENCE = os.path.join(ROOT, "check", "reference", "reference.py")
 
 
 class Commands(Folder):
@@ -27,23 +25,10 @@ class Commands(Folder):
         self.write("pick.rs", file_bytes(SAMPLES, "pick.rs"))
 
     def run_main(self, *words, nllc="nllc"):
-        out, err = io.StringIO(), io.StringIO()
-        with mock.patch.dict(os.environ, {"NLLC": self.path(nllc)} if nllc else {}), \
-                redirect_stdout(out), redirect_stderr(err):
-            status = main([*words, "-o", self.folder])
-        return status, out.getvalue(), err.getvalue()
-
-    def refused(self, pattern, *words, status=2, **more):
-        before = sorted(os.listdir(self.folder))
-        got, out, err = self.run_main(*words, **more)
-        self.assertEqual((got, out), (status, ""))
-        self.assertRegex(err, pattern)
-        self.assertEqual(err.count("\n"), 1, err)
-        self.assertEqual(sorted(os.listdir(self.folder)), before)
+        return self.called(main, [*words, "-o", self.room], **({"NLLC": nllc} if nllc else {}))
 
     def page(self, name="pick.html"):
-        with open(self.path(name), encoding="utf-8") as file:
-            return file.read()
+        return self.read(name)
 
     # What is written
 
@@ -80,7 +65,7 @@ class Commands(Folder):
     def test_faults_in_words(self):
         said = self.answered()
         self.assertEqual(finding_lines.lines(said.path, said.findings[0].finding), [
-            f"{self.folder}/pick.rs:7: `'b` must outlive `'a`, but the signature doesn't declare it",
+            f"{self.room}/pick.rs:7: `'b` must outlive `'a`, but the signature doesn't declare it",
             "    data that lives for `'b` flows into `'a` at line 7 (`best = second;`) and line 9 (`best`)",
             "    help: consider adding the bound `'b: 'a` to the signature; or write `'a` in place of `'b`; "
             "or return an owned value"])
@@ -140,7 +125,7 @@ class Commands(Folder):
 
     def test_no_file(self):
         self.refused("missing.facts can't be read: No such file", self.path("missing.facts"))
-        self.refused("can't be read: Is a directory", self.folder)
+        self.refused("can't be read: Is a directory", self.room)
 
     def test_a_text_that_nllc_refuses(self):
         wrong = self.write("wrong.facts", text(1, "region 'x", "region 'x"))
@@ -193,14 +178,14 @@ class Commands(Folder):
         self.program("slow", f"touch {self.path('began')}; exec sleep 20")
         with mock.patch.dict(os.environ, {"NLLC": self.path("slow")}):
             run = subprocess.Popen([os.path.join(ROOT, "frontend", "run"), "page",
-                                    self.path("pick.facts"), "-o", self.folder],
+                                    self.path("pick.facts"), "-o", self.room],
                                    stdout=subprocess.PIPE, stderr=subprocess.PIPE, text=True)
         while not os.path.exists(self.path("began")):
             time.sleep(0.02)
         run.terminate()
         out, err = run.communicate(timeout=10)
         self.assertEqual((run.returncode, out, err), (130, "", "nllc.sh page: stopped; nothing half-written is left\n"))
-        self.assertNotIn("pick.html", os.listdir(self.folder))
+        self.assertNotIn("pick.html", os.listdir(self.room))
 
 
 if __name__ == "__main__":

@@ -6,7 +6,8 @@ import subprocess
 import tempfile
 import unittest
 
-FRONTEND = os.path.dirname(os.path.dirname(os.path.abspath(__file__)))
+from paths import FRONTEND
+
 SET_LATER = "nllc_tools/texts/mir/functions.py"    # its `begin` gives the name a value, which is declared without one
 
 

@@ -1,4 +1,4 @@
-"""The part of a Rust file that a page shows, and its words by kind."""
+"""The part of a Rust file that a page shows, what stands at a place of it, and its words by kind."""
 
 import os
 import re
@@ -8,8 +8,11 @@ from typing import Iterator, NamedTuple, Optional, Sequence
 from nllc_tools.base.command_line import called
 from nllc_tools.base.refusal import Refusal, refusing
 from nllc_tools.model.facts import Facts
+from nllc_tools.model.said import Place
 
 MOST_BYTES = 4 * 1024 * 1024
+MOST_LETTERS = 50   # of what stands at a place
+BORROW = re.compile(r"&\s*(?:mut\b\s*)?")
 
 WORD = re.compile(r"""
     (?P<comment>//.*|/\*.*?(?:\*/|$))
@@ -90,6 +93,49 @@ def indent(line: str) -> int:
 def closes(line: str, depth: int) -> bool:
     return indent(line) <= depth and line.rstrip().endswith("}")
 
+
+# What stands at a place, on one line
+
+def snippet(source: Optional[Source], place: Optional[Place]) -> str:
+    """The words there, cut where they are long; empty where the source isn't at hand."""
+    line = line_of(source, place.line) if place else None
+    if place is None or line is None:
+        return ""
+    if place.last == place.line:
+        return cut(line[place.column - 1:place.end - 1].strip())
+    return cut(line[place.column - 1:].strip(), most=-1)
+
+
+def cut(words: str, most: int = MOST_LETTERS) -> str:
+    """The words, or where they are longer than that their beginning."""
+    return words if len(words) <= most else words[:MOST_LETTERS - 3].rstrip() + " .."
+
+
+def line_of(source: Optional[Source], number: int) -> Optional[str]:
+    """A line as it stands there; None where the source isn't at hand."""
+    if source is None or not source.first <= number < source.first + len(source.lines):
+        return None
+    return source.lines[number - source.first]
+
+
+def words_of(source: Optional[Source], number: int) -> str:
+    """A line without its indent and what is said behind it; empty where the source isn't at hand."""
+    return (line_of(source, number) or "").partition("//")[0].strip()
+
+
+def whole_line(source: Optional[Source], number: int) -> str:
+    """The same, cut where it is long."""
+    return cut(words_of(source, number))
+
+
+def borrowed(source: Optional[Source], place: Optional[Place]) -> Optional[Place]:
+    """The place of what is borrowed, behind the `&` with which the place begins, if it does."""
+    line = line_of(source, place.line) if place else None
+    found = BORROW.match(line, max(place.column - 1, 0)) if place and line else None
+    return place._replace(column=found.end() + 1) if place and found else place
+
+
+# The words of a line by kind
 
 def is_mir(source: Source) -> bool:
     """Whether these are lines of a MIR text."""

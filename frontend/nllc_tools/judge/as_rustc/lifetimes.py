@@ -11,8 +11,7 @@ from nllc_tools.judge.faults import AnyFault, Fault, LoanFault
 from nllc_tools.model.facts import Facts
 from nllc_tools.model.region_names import tick
 from nllc_tools.model.said import Error, Label
-from nllc_tools.texts.snippets import line_of, snippet
-from nllc_tools.texts.source import Source
+from nllc_tools.texts.source import Source, line_of, snippet
 
 HERE = r"let's call (?:the lifetime of this reference|this) `('\d+)`"
 TYPE = r"has type `(.*'\d+.*)`"

@@ -1,12 +1,11 @@
 """Events in sentences. A sentence is a list of strings; those that are `Code` are shown as code."""
 
-from dataclasses import dataclass
 from typing import Iterable
 
 from nllc_tools.base.sentences import Code, joined, plural
 from nllc_tools.model.facts import Facts
 from nllc_tools.model.region_names import tick
-from nllc_tools.texts.schedule_states import Event, Growth, Run, Seat, State, UnderWay
+from nllc_tools.texts.schedule_states import Event, Growth, Run, UnderWay
 
 # What counts in the balance.
 WAYS = {"load": "the load of owner {0.owner}", "item": "what owner {0.owner} works on",
@@ -48,34 +47,15 @@ def way_words(facts: Facts, one: UnderWay) -> list[str]:
     return [growth(facts, one.growth), said] if one.growth else [said]
 
 
-@dataclass(frozen=True)
 class Happening:
     """What an event did, or why it did nothing."""
 
-    facts: Facts
-    run: Run
-    number: int
-
-    @property
-    def before(self) -> State:
-        return self.run.states[self.number - 1]
-
-    @property
-    def after(self) -> State:
-        return self.run.states[self.number]
-
-    @property
-    def event(self) -> Event:
-        return self.after.event
-
-    @property
-    def owner(self) -> str:
-        return f"Owner {self.event.owner}"
-
-    @property
-    def seat(self) -> Seat:
-        """The owner's, before the event."""
-        return self.before.seats[self.event.owner]
+    def __init__(self, facts: Facts, run: Run, number: int):
+        self.facts, self.run, self.number = facts, run, number
+        self.before, self.after = run.states[number - 1:number + 1]
+        self.event = self.after.event
+        self.owner = f"Owner {self.event.owner}"
+        self.seat = self.before.seats[self.event.owner]     # the owner's, before the event
 
     def told(self) -> list[str]:
         if self.after.answer == "not now":

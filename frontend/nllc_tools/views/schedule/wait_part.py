@@ -75,10 +75,8 @@ def nodes(content: Content, owner: int, at: Spot) -> Iterator[str]:
 
 def messages(content: Content, sender: int, reader: int, places: Sequence[Spot]) -> Iterator[str]:
     """An arrow with the number of messages on their way, while there are any."""
-    def count_of(state: State) -> int:
-        return sum(len(state.seats[sender].lane(reader, part)) for part in ("fresh", "out", "box"))
-
-    for count, span in values(content.run.states, count_of):
+    for count, span in values(content.run.states, lambda state: sum(
+            len(state.seats[sender].lane(reader, part)) for part in ("fresh", "out", "box"))):
         if count:
             yield (f'<g class="message" {span.attributes()}>'
                    f"<title>{plural(count, 'message')} from owner {sender} to owner {reader}</title>"

@@ -4,9 +4,10 @@ import re
 from dataclasses import dataclass
 from typing import Iterator, NamedTuple, Optional
 
-from nllc_tools.base.sentences import plain, plural, visible
+from nllc_tools.base.sentences import plain, visible
 from nllc_tools.judge.findings.finding import where
 from nllc_tools.judge.summary import Summary
+from nllc_tools.judge.verdicts import counted
 from nllc_tools.model.said import Error as OwnError
 from nllc_tools.rustc.compiler import version
 from nllc_tools.rustc.errors import Error
@@ -89,9 +90,7 @@ def tell_all(checked: Checked, answers: list[Answer]) -> None:
 
 
 def verdict(said: Summary) -> str:
-    counts = [plural(count, noun) for count, noun in
-              ((said.faults, "fault"), (said.loans, "loan error"), (said.moves, "move error")) if count]
-    return ", ".join(counts) or ("refused by rustc" if said.refused else "no fault")
+    return "refused by rustc" if said.refused and not said.count() else counted(said.faults, said.loans, said.moves)
 
 
 def told(said: Summary, places: set[Spot], errors: list[Error], shown: set[Shown]) -> list[str]:

@@ -1,4 +1,4 @@
-"""Faults and loans for a terminal, step by step."""
+"""Faults and loans for a terminal, step by step; how a second answer differs from the first."""
 
 from typing import Iterator
 
@@ -7,8 +7,10 @@ from nllc_tools.base.sentences import Code, Sentence
 from nllc_tools.judge import asking_statements, chain_sentences
 from nllc_tools.judge.content import Content
 from nllc_tools.judge.faults import Cause, LoanFault
+from nllc_tools.judge.verdicts import alone, in_words
 from nllc_tools.model import region_names
 from nllc_tools.model.facts import Facts
+from nllc_tools.views.terminal import finding_lines
 
 
 def lines(content: Content) -> Iterator[str]:
@@ -49,3 +51,13 @@ def first_line(facts: Facts, cause: Cause, point: int) -> Sentence:
         return [name, f" is live at point {facts.point_name(point)}"]
     return [name, f" is live at point {facts.point_name(point)}: ", *asking_statements.statement(facts, cause.use),
             " drops it" if cause.is_drop else " uses it"]
+
+
+def second_answer(content: Content) -> Iterator[str]:
+    """How the second answer differs from the first; no line where it doesn't, or there is none."""
+    other = content.everywhere or content
+    only_second = alone(other, content)
+    if only_second or alone(content, other):
+        yield f"with each constraint at all points: {in_words(other)}, in place of {in_words(content)}"
+    for one in only_second:
+        yield from (f"    {line}" for line in finding_lines.lines(other.path, one))

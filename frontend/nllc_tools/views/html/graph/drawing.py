@@ -13,10 +13,9 @@ from nllc_tools.views.html.writing import text as escape
 from nllc_tools.views.html.graph import layout, lines
 from nllc_tools.views.html.graph.boxes import (CELL, HEAD, LETTER, PAD, PITCH, ROW, Rows, columns, folded_cells, folded_size,
                                                room_for_words)
-from nllc_tools.views.html.graph.layout import Drawing, Shape, Size, Spot
+from nllc_tools.views.html.graph.layout import Drawing, Shape, Size, Spot, curves
 from nllc_tools.views.html.graph.lines import Line
 from nllc_tools.views.html.graph.order import Edge
-from nllc_tools.views.html.graph.svg import curves, opening
 
 STUB = 14           # the length of a stub's arrow
 STUB_PITCH = 13     # from one stub to the next
@@ -109,7 +108,7 @@ def many(graph: Graph) -> tuple[str, dict[str, object]]:
     drawing = graph.placed(sizes)
     arrows = {edge: arrow(route, edge in graph.shape.turned) for edge, route in drawing.routes.items()}
     frames = "".join(f"M{x:.0f} {y:.0f}h{w:.0f}v{h:.0f}h-{w:.0f}z" for (x, y), (w, h, _) in zip(drawing.corners, sizes))
-    parts = [opening("folded many", drawing, LABEL), f'<path class="frame" d="{frames}"/>',
+    parts = [drawing.opening("folded many", LABEL), f'<path class="frame" d="{frames}"/>',
              '<path class="frame lit" d=""/><g class="edges">']
     for kind, is_turned in (("edge", False), ("edge back", True)):
         ways = "".join(one.way for edge, one in arrows.items() if (edge in graph.shape.turned) == is_turned)
@@ -141,7 +140,7 @@ def row_stubs(graph: Graph, box: Rows) -> str:
 
 def svg(name: str, graph: Graph, sizes: Sequence[Size], inside: Callable[[int], str]) -> str:
     drawing = graph.placed(sizes)
-    parts = [opening(name, drawing, LABEL), '<g class="edges">']
+    parts = [drawing.opening(name, LABEL), '<g class="edges">']
     parts += [edge_group(graph, edge, arrow(route, edge in graph.shape.turned), edge in graph.shape.turned)
               for edge, route in drawing.routes.items()]
     parts += [edge_group(graph, (box, box), loop(drawing.corners[box], sizes[box]), True)

@@ -18,7 +18,7 @@ from nllc_tools.judge.names import is_inner, lifetime_words
 from nllc_tools.model.chains import Step
 from nllc_tools.model.facts import ALL, Constraint, Facts
 from nllc_tools.model.region_names import end, tick
-from nllc_tools.texts.snippets import words_of
+from nllc_tools.texts.source import words_of
 from nllc_tools.views.html.writing import sentence, text
 
 MOST_LETTERS = 60   # of a line of the source; what is longer is cut
