@@ -55,13 +55,9 @@ def answer_of_rustc(content: Content) -> Optional[str]:
 
 def alone(content: Content, other: Content) -> list[Finding]:
     """The faults and loan errors of an answer that another one of the same function lacks."""
-    known = findings.all_of(other)
-    return [one for one in findings.all_of(content) if not any(is_same(one, two) for two in known)]
-
-
-def is_same(one: Finding, other: Finding) -> bool:
-    """Whether a fault is that of the other answer: by its place, code and words."""
-    return (one.place and one.place[:2], one.code, plain(one.head)) == (other.place and other.place[:2], other.code, plain(other.head))
+    known, own = ([(one.place and one.place[:2], one.code, plain(one.head)) for one in findings.all_of(its)]
+                  for its in (other, content))
+    return [one for one, mark in zip(findings.all_of(content), own) if mark not in known]
 
 
 def differing(content: Content, other: Content) -> list[int]:

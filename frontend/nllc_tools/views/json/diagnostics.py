@@ -8,28 +8,19 @@ import json
 import os
 import re
 from functools import cache
-from typing import Iterator, NamedTuple, Optional, Sequence
+from typing import Iterator, Optional, Sequence
 
 from nllc_tools.base.sentences import plain, visible
-from nllc_tools.judge.summary import Summary, Told
+from nllc_tools.judge.summary import Summary, Told, mark_of
 from nllc_tools.judge.findings.finding import Finding
-from nllc_tools.model.said import Error as OwnError, Place
+from nllc_tools.model.said import Place
 from nllc_tools.rustc.compiler import version
-from nllc_tools.rustc.errors import Error, error_of, without_colours
+from nllc_tools.rustc.errors import error_of, without_colours
 from nllc_tools.rustc.functions import Checked
 from nllc_tools.views.terminal import finding_lines
 
 Said = dict[str, object]
 WORD = re.compile(r"\w*")
-
-
-class Mark(NamedTuple):
-    """By what an error of rustc is known again."""
-
-    path: str
-    line: int
-    column: int
-    words: str
 
 
 def lines(checked: Checked, answers: list[Summary]) -> Iterator[str]:
@@ -125,9 +116,9 @@ def rendered(path: str, finding: Finding, message: str, children: list[Said]) ->
 
 def others(checked: Checked, answers: list[Summary]) -> Iterator[object]:
     """What rustc says and no fault does; where `nllc` differs, with a note that says so, and why."""
-    told = {mark_in(said, error) for said in answers for error in said.errors}
-    differing = {mark_in(said, one.error): visible(plain(one.why)) for said in answers for one in said.differences}
-    told -= {mark_in(said, error) for said in answers
+    told = {said.mark_of(error) for said in answers for error in said.errors}
+    differing = {said.mark_of(one.error): visible(plain(one.why)) for said in answers for one in said.differences}
+    told -= {said.mark_of(error) for said in answers
              for error in (*said.refused, *(one.error for one in (*said.differences, *said.further)))}
     own = {mark_of(error) for error in (*checked.errors, *checked.unanswered)}
     for unit in checked.units:
@@ -139,14 +130,6 @@ def others(checked: Checked, answers: list[Summary]) -> Iterator[object]:
                 notes = [child("note", f"nllc: no fault there: {differing[mark]}")] if mark in differing else []
                 told_of: Said = {**diagnostic, "children": [*diagnostic["children"], *notes]}
                 yield moved(told_of, unit.root)
-
-
-def mark_in(said: Summary, error: OwnError) -> Mark:
-    return Mark(said.source, error.line, error.column, error.words)
-
-
-def mark_of(error: Error) -> Mark:
-    return Mark(error.path, error.line, error.column, " ".join(error.words().split()))
 
 
 def moved(thing: object, root: str) -> object:

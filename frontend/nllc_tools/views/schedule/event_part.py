@@ -35,10 +35,6 @@ def answer(state: State) -> str:
     return f'<span class="answer {state.answer.replace(" ", "-") or "first"}">{text(state.answer)}</span>'
 
 
-def event_parts(content: Content) -> str:
-    return "".join(event_part(content, number) for number in range(len(content.run.states)))
-
-
 def event_part(content: Content, number: int) -> str:
     """What is said of an event, of the growths in it, and of the balance after it."""
     state = content.run.states[number]

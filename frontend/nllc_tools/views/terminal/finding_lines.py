@@ -26,5 +26,5 @@ def lines(path: str, finding: Finding) -> list[str]:
     used = where(path, finding.place)
     named = where(*finding.within) if finding.within else used
     head = ": ".join(filter(None, (named, finding.code, sentences.plain(finding.head))))
-    macro = [sentences.of_macro(used, path)] if finding.within else []
+    macro = [[f"in this macro invocation: {used}; the lines named here are of {path}"]] if finding.within else []
     return [head, *(f"    {sentences.plain(one)}" for one in (finding.cause, *macro, *finding.more))]

@@ -151,7 +151,9 @@ def middles(shape: Shape, sizes: Sequence[Size]) -> list[float]:
     offsets = [offsets_of([sizes[n] for n in layer]) for layer in shape.layers]
     for layer, its in zip(shape.layers, offsets):
         spread(layer, middle, its, [float(at) for at in range(len(layer))], [1.0] * len(layer))
-    downwards, upwards = ([(layer, its, [near[n] for n in layer], weights_of(layer, near, shape.boxes))
+    # The wish of a box counts less than an edge's, and one without neighbours little.
+    downwards, upwards = ([(layer, its, [near[n] for n in layer],
+                            [(1.0 if near[n] else 0.1) * (4.0 if n >= shape.boxes else 1.0) for n in layer])
                            for layer, its in zip(shape.layers, offsets)] for near in (above, below))
     sweeps = 0
     earlier: list[float] = []
@@ -165,11 +167,6 @@ def middles(shape: Shape, sizes: Sequence[Size]) -> list[float]:
             spread(layer, middle, its, wishes, weights)
     left = min(at - size.width / 2 for at, size in zip(middle, sizes))
     return [at - left + MARGIN for at in middle]
-
-
-def weights_of(layer: Iterable[int], near: Table, boxes: int) -> list[float]:
-    """How much the wish of each place counts: a box's less than an edge's, and one without neighbours little."""
-    return [(1.0 if near[n] else 0.1) * (4.0 if n >= boxes else 1.0) for n in layer]
 
 
 def offsets_of(sizes: Sequence[Size]) -> list[float]:

@@ -4,7 +4,7 @@ from itertools import groupby
 from typing import Iterable, NamedTuple, Optional, Sequence
 
 from nllc_tools.base.grouping import grouped
-from nllc_tools.base.sentences import plural
+from nllc_tools.base.sentences import plural, some
 from nllc_tools.judge import asking_statements
 from nllc_tools.judge.content import Content
 from nllc_tools.judge.labels import Label, labels_of
@@ -15,6 +15,7 @@ from nllc_tools.views.html.graph import lines
 from nllc_tools.views.html.graph.lines import Row
 from nllc_tools.views.html.writing import text
 
+MOST_NAMES = 4      # of regions, or of pairs of them, at a point
 MOST_IN_PART = 100  # rows, where no remark names blocks
 
 
@@ -139,13 +140,7 @@ def said_at(facts: Facts, point: int) -> str:
     """What the text says of a point whose statement it doesn't give."""
     asked = [f"({tick(facts, sup)}: {tick(facts, sub)})" for sup, sub in facts.asked.get(point, ())]
     live = [tick(facts, region) for region in facts.live.get(point, ())]
-    return ";  ".join(([some(asked)] if asked else []) + ([f"live: {some(live)}"] if live else []))
-
-
-def some(names: Sequence[str], most: int = 4) -> str:
-    """The first of the names, and how many more there are."""
-    more = f" and {len(names) - most} more" if len(names) > most else ""
-    return ", ".join(names[:most]) + more
+    return ";  ".join(([some(asked, MOST_NAMES)] if asked else []) + ([f"live: {some(live, MOST_NAMES)}"] if live else []))
 
 
 def end_list(facts: Facts) -> str:
