@@ -85,7 +85,3 @@ class Ends(Room):
             self.assertEqual((done.returncode, done.stderr), (0, ""))
             self.assertIn("tatus", done.stdout)    # help says what the statuses are
             self.assertNotIn("\\", done.stdout)
-
-
-if __name__ == "__main__":
-    unittest.main()

@@ -365,7 +365,3 @@ pub fn fifth(s: String) { let t = s;
         self.assertEqual(done.returncode, 2)
         self.assertEqual(done.stderr, "nllc.sh rust: none.rs isn't a readable file; "
                          "give the path of a Rust file\n")
-
-
-if __name__ == "__main__":
-    unittest.main()

@@ -209,7 +209,3 @@ class Pages(Room):
             for name in sorted(os.listdir(folder)):
                 with self.subTest(text=f"{source}/{name}"):
                     self.assertEqual(self.called(page, [os.path.join(folder, name), "-o", self.room], NLLC="nllc")[0], 0)
-
-
-if __name__ == "__main__":
-    unittest.main()

@@ -307,7 +307,3 @@ class Controls(unittest.TestCase):
         self.assertEqual(shown.value("probe.nodes('.waiting > p').map((one) => one.textContent)"), ["Nobody waits."])
         self.assertEqual(shown.value("probe.nodes('#events .why').map((one) => one.textContent)[0]"),
                          "The box from owner 1 to owner 0 is empty.")
-
-
-if __name__ == "__main__":
-    unittest.main()

@@ -189,7 +189,3 @@ class Solver(unittest.TestCase):
     def compare(self, text):
         facts, values = page_support.solved(text)
         self.assertEqual(quick_values(facts).rows, values.rows)
-
-
-if __name__ == "__main__":
-    unittest.main()

@@ -390,7 +390,3 @@ class Snippets(unittest.TestCase):
         self.assertEqual(whole_line(SOURCE, 3), "show(y);")
         self.assertEqual(whole_line(Source("", 1, ["x" * 80]), 1), "x" * 47 + " ..")
         self.assertEqual(whole_line(SOURCE, 4), "")
-
-
-if __name__ == "__main__":
-    unittest.main()

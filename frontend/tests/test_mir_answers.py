@@ -75,7 +75,3 @@ class Texts(unittest.TestCase):
             with self.subTest(words=words):
                 self.assertIn(said, done.stderr)
                 self.assertEqual((done.stdout, done.returncode), ("", 2))
-
-
-if __name__ == "__main__":
-    unittest.main()

@@ -81,7 +81,3 @@ class Between(unittest.TestCase):
     def test_what_follows(self):
         constraints = {(1, 2, 5), (2, 3, sides.ALL), (3, 4, 6)}
         self.assertEqual(sides.closed(constraints, {5}), {(1, 2, 5), (1, 3, 5), (2, 3, 5)})
-
-
-if __name__ == "__main__":
-    unittest.main()

@@ -122,7 +122,3 @@ class Lines(unittest.TestCase):
         for text in ("_3 = yield(move _1) -> [resume: bb1, drop: bb2]", 'asm!("nop") -> bb1', "strange -> bb1"):
             with self.subTest(terminator=text), self.assertRaises(NotSaid):
                 read_terminator(text)
-
-
-if __name__ == "__main__":
-    unittest.main()

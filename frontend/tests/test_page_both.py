@@ -179,7 +179,3 @@ def all_texts():
     """Texts of right and of wrong functions, with loans that something conflicts with in both."""
     for source in ("differ", "right", "iterators", "coroutines", "borrowed_twice", "moves"):
         yield from ((f"{source}/{name}", text.encode()) for name, text in sorted(stored_texts(source).items()))
-
-
-if __name__ == "__main__":
-    unittest.main()

@@ -168,7 +168,3 @@ class Browser(unittest.TestCase):
                          shown.probe("elements", ".graph.folded .cell"),
                          shown.probe("elements", ".graph.folded .cell.held")))
         self.assertEqual(*said)
-
-
-if __name__ == "__main__":
-    unittest.main()

@@ -186,7 +186,3 @@ class Commands(Folder):
         out, err = run.communicate(timeout=10)
         self.assertEqual((run.returncode, out, err), (130, "", "nllc.sh page: stopped; nothing half-written is left\n"))
         self.assertNotIn("pick.html", os.listdir(self.room))
-
-
-if __name__ == "__main__":
-    unittest.main()

@@ -164,7 +164,3 @@ class Scripts(unittest.TestCase):
             for forbidden in ("innerHTML", "outerHTML", "insertAdjacentHTML", "document.write",
                               "eval(", "</script"):
                 self.assertNotIn(forbidden, script)
-
-
-if __name__ == "__main__":
-    unittest.main()

@@ -127,7 +127,3 @@ class Reports(unittest.TestCase):
     def test_sample(self):
         _, values = solved(file_bytes(SAMPLES, "pick.facts"))
         self.assertEqual(values.elements(3), [1, 2, 3, 4, 6, 7, 8, 10])
-
-
-if __name__ == "__main__":
-    unittest.main()

@@ -181,7 +181,3 @@ class Drawings(unittest.TestCase):
     def test_a_function_that_never_returns(self):
         graph = drawing.graph_of(facts_of(2, "next 0 1", "next 1 0"))
         self.assertEqual((graph.stubs, graph.returning), ({}, [True]))
-
-
-if __name__ == "__main__":
-    unittest.main()

@@ -151,7 +151,3 @@ class Index(Command):
         self.write("other.html", b"<p>no page</p>")
         self.write("index.html", index_rows.row_mark(index_rows.Row("x", "x", 1, 1, 1, 0, None)).encode())
         self.assertEqual(index_rows.rows_in(self.room), [])
-
-
-if __name__ == "__main__":
-    unittest.main()

@@ -146,7 +146,3 @@ class Workspace(Project):
         done = self.run_in("ws", "cargo", "nllc", "--workspace", PATH=path)
         self.assertEqual((done.returncode, done.stderr.splitlines()[-1]), (
             2, "cargo nllc: error: unrecognized arguments: --workspace; options of cargo check go after --"))
-
-
-if __name__ == "__main__":
-    unittest.main()

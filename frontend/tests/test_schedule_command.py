@@ -101,7 +101,3 @@ class Commands(Room):
         self.refused("has 71 regions", many, self.schedule)
         long = self.write("long.schedule", schedule(*["load 0"] * 2001))
         self.refused("has 2,001 events", self.facts, long)
-
-
-if __name__ == "__main__":
-    unittest.main()

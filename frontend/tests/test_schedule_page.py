@@ -239,7 +239,3 @@ class Pages(unittest.TestCase):
         self.assertIn("No owner reads a region of another one.", shown)
         self.assertIn("There is none.", shown)
         self.assertIn("Before the first event", shown)
-
-
-if __name__ == "__main__":
-    unittest.main()

@@ -203,7 +203,3 @@ class Explain(Texts):
         done = self.run_words("explain", self.write("f.rs", "fn f() {}\n"))
         self.assertEqual((done.returncode, done.stdout), (2, ""))
         self.assertIn("f.rs is a Rust file: nllc.sh rust ", done.stderr)
-
-
-if __name__ == "__main__":
-    unittest.main()

@@ -43,7 +43,3 @@ class Names(unittest.TestCase):
         _, said = said_by("pyflakes3", "nllc_tools", "nllc_tools/rustc/rustc-wrapper", "run", "cargo-nllc")
         self.assertEqual([line for line in said.splitlines()
                           if not line.startswith(SET_LATER) or "undefined name 'definitions'" not in line], [])
-
-
-if __name__ == "__main__":
-    unittest.main()

@@ -217,7 +217,3 @@ class Current(Wrapper):
         earlier = os.stat(self.path("out/told")).st_mtime - 3700
         os.utime(self.path("out/told"), (earlier, earlier))
         self.assertEqual(self.run_script("check", "F").stderr, line)
-
-
-if __name__ == "__main__":
-    unittest.main()
