@@ -4,7 +4,6 @@ import os
 import shutil
 import subprocess
 import sys
-import unittest
 
 from paths import EXAMPLES, FRONTEND
 from rooms import STATES, Room

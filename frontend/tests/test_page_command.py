@@ -5,7 +5,6 @@ import stat
 import subprocess
 import sys
 import time
-import unittest
 from unittest import mock
 
 from page_support import SAMPLES, Folder, file_bytes, text

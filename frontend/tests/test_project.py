@@ -2,7 +2,6 @@
 
 import os
 import subprocess
-import unittest
 
 import facts_support as support
 from test_facts_command import RUST, Room, needs_known

@@ -1,7 +1,6 @@
 """The command of pages of schedules: the page that it writes, and each refusal, after which nothing is left."""
 
 import sys
-import unittest
 
 from page_support import EXAMPLES, file_bytes, text
 from rooms import STATES, Room

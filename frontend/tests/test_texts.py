@@ -4,7 +4,6 @@ import os
 import re
 import subprocess
 import sys
-import unittest
 
 from paths import FRONTEND
 from rooms import REFERENCE, Room

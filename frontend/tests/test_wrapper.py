@@ -4,7 +4,6 @@ import glob
 import os
 import shutil
 import subprocess
-import unittest
 
 from paths import ROOT
 from rooms import Room
