@@ -10,7 +10,6 @@ from nllc_tools.texts.schedule_states import Growth, State, under_way
 from nllc_tools.views.html.writing import items, sentence, text
 from nllc_tools.views.schedule import event_words
 from nllc_tools.views.schedule.content import Content
-from nllc_tools.views.schedule.event_words import Happening
 from nllc_tools.views.schedule.reasons import Reading, readings
 
 MOST_ROWS = 12      # of a list of what is under way, or of what grew, no more is written out
@@ -25,7 +24,7 @@ def event_row(content: Content, number: int) -> str:
     """An event with its answer; why it did nothing, if it didn't."""
     state = content.run.states[number]
     words = event_words.words_of(state.event) if number else "the first state"
-    why = f'<span class="why">{sentence(Happening(content.facts, content.run, number).why_not())}</span>' \
+    why = f'<span class="why">{sentence(event_words.Happening(content.facts, content.run, number).why_not())}</span>' \
         if state.answer == "not now" else ""
     return (f'<li><a href="#event={number}" data-event="{number}"><span class="no">{number or ""}</span>'
             f'<code>{text(words)}</code>{answer(state)}<span class="balance">{state.balance}</span>{why}</a></li>')
@@ -40,7 +39,7 @@ def event_part(content: Content, number: int) -> str:
     state = content.run.states[number]
     if number:
         head = (f"<h2>{number}. <code>{text(event_words.words_of(state.event))}</code> {answer(state)}</h2>"
-                f"<p>{sentence(Happening(content.facts, content.run, number).told())}</p>")
+                f"<p>{sentence(event_words.Happening(content.facts, content.run, number).told())}</p>")
     else:
         head = ("<h2>Before the first event</h2><p>No owner has done anything yet. Each owes for its load, "
                 f"so the balance is {state.balance}.</p>")

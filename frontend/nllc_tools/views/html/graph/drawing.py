@@ -10,10 +10,10 @@ from nllc_tools.base.walks import reached
 from nllc_tools.judge.chain_sentences import unwinds
 from nllc_tools.model.facts import Facts
 from nllc_tools.views.html.writing import text as escape
-from nllc_tools.views.html.graph import layout, lines
+from nllc_tools.views.html.graph import lines
 from nllc_tools.views.html.graph.boxes import (CELL, HEAD, LETTER, PAD, PITCH, ROW, Rows, columns, folded_cells, folded_size,
                                                room_for_words)
-from nllc_tools.views.html.graph.layout import Drawing, Shape, Size, Spot, curves
+from nllc_tools.views.html.graph.layout import Drawing, Shape, Size, Spot, curves, place, shape_of
 from nllc_tools.views.html.graph.lines import Line
 from nllc_tools.views.html.graph.order import Edge
 
@@ -35,7 +35,7 @@ class Graph:
 
     @cached_property
     def shape(self) -> Shape:
-        return layout.shape_of(len(self.lines), self.edges)
+        return shape_of(len(self.lines), self.edges)
 
     def ends(self, edge: Edge) -> str:
         """The points between which the edge goes."""
@@ -45,7 +45,7 @@ class Graph:
         """Where boxes of these sizes stand, with room for stubs beside them."""
         wide = STUB + LETTER * max(len(str(self.facts.points)), *map(len, self.facts.point_names.values()), 0)
         room = [wide if any(point in self.stubs for point in line) else 0 for line in self.lines]
-        return layout.place(self.shape, [size._replace(free=free) for size, free in zip(sizes, room)])
+        return place(self.shape, [size._replace(free=free) for size, free in zip(sizes, room)])
 
 
 class Arrow(NamedTuple):

@@ -12,7 +12,6 @@ from nllc_tools.model.facts import Facts
 from nllc_tools.model.region_names import tick
 from nllc_tools.texts.source import Source, is_mir, pieces
 from nllc_tools.views.html.graph import lines
-from nllc_tools.views.html.graph.lines import Row
 from nllc_tools.views.html.writing import text
 
 MOST_NAMES = 4      # of regions, or of pairs of them, at a point
@@ -23,7 +22,7 @@ class Block(NamedTuple):
     """Rows of points of one block."""
 
     name: str
-    rows: list[Row]
+    rows: list[lines.Row]
 
 
 def tabs(content: Content) -> str:
@@ -49,7 +48,7 @@ def source_list(content: Content, is_large: bool = False) -> str:
                    for number, line in enumerate(source.lines, source.first))
 
 
-def source_line(facts: Facts, number: int, code: str, rows: Sequence[Row], asks: bool, is_large: bool) -> str:
+def source_line(facts: Facts, number: int, code: str, rows: Sequence[lines.Row], asks: bool, is_large: bool) -> str:
     """A line of the source; with points it opens, and shows them."""
     begin = f'class="{"line asks" if asks else "line"}" id="line-{number}">'
     head = f'<span class="no">{number}</span>{strip(rows)}<code>{code}</code>'
@@ -59,7 +58,7 @@ def source_line(facts: Facts, number: int, code: str, rows: Sequence[Row], asks:
     return f'<details {begin}<summary>{head}</summary><div class="rows">{inside}</div></details>'
 
 
-def strip(rows: Sequence[Row]) -> str:
+def strip(rows: Sequence[lines.Row]) -> str:
     """A strip with a part for each point of a line."""
     points = [point for row in rows for point in row.points]
     parts = "".join(f'<i data-p="{point}"></i>' for point in points)
@@ -119,7 +118,7 @@ def place_mark(facts: Facts, point: int) -> str:
     return "" if line is None else f'<span class="at">line {line}</span>'
 
 
-def point_row(facts: Facts, row: Row, behind: str = "") -> str:
+def point_row(facts: Facts, row: lines.Row, behind: str = "") -> str:
     """The buttons of a statement's points, and its words; what stands behind them comes last."""
     buttons = "".join(f'<button type="button" class="point" data-p="{point}" tabindex="-1">{facts.point_name(point)}</button>'
                       for point in row.points)
@@ -128,7 +127,7 @@ def point_row(facts: Facts, row: Row, behind: str = "") -> str:
     return f'<div class="row"><span class="numbers">{buttons}</span>{words}{return_mark(facts, row)}{behind}</div>'
 
 
-def return_mark(facts: Facts, row: Row) -> str:
+def return_mark(facts: Facts, row: lines.Row) -> str:
     """Says that the function may return there, where the statement itself doesn't."""
     told = facts.remarks.point(row.points[0]).statement() in ("return", "resume")
     if told or facts.returns.isdisjoint(row.points):
