@@ -2,12 +2,16 @@
 
 import os
 import random
+from html.parser import HTMLParser
 
 from paths import EXAMPLES, ROOT, TESTS  # noqa: F401 (others have them from here)
 
 import reference
 from rooms import Room
 
+from nllc_tools.base import nllc
+from nllc_tools.judge.content import Content, explained
+from nllc_tools.model.faults import faults
 from nllc_tools.texts.facts.reader import read_facts
 from nllc_tools.texts.facts.values import read_values
 
@@ -28,6 +32,48 @@ def solved(data):
     report, status, _ = reference.answer("values", data)
     assert status == 0
     return facts, read_values(report.decode(), facts, "REPORT")
+
+
+def content_of(facts, values, source=None, path="TEXT", origin="nllc.sh", standing=nllc.PROVED):
+    """What a page shows of a problem with these values, with the chains of its faults."""
+    found = explained(facts, values, faults(facts, values), origin)
+    return Content(facts, values, found, path, source, origin, standing)
+
+
+class Markup(HTMLParser):
+    """The elements of a page, its attributes, scripts and text; which elements stay open, and which ends fit none."""
+
+    VOID = {"meta", "link", "input", "rect", "path", "br"}
+
+    def __init__(self, made):
+        super().__init__()
+        self.tags, self.attributes, self.scripts, self.text, self.open, self.wrong = [], [], [], [], [], []
+        self.inside = None
+        self.feed(made)
+
+    def handle_starttag(self, tag, attributes):
+        self.handle_startendtag(tag, attributes)
+        self.open += [tag] if tag not in self.VOID else []
+        self.inside = tag
+
+    def handle_startendtag(self, tag, attributes):
+        self.tags.append(tag)
+        self.attributes += attributes
+        self.inside = None
+
+    def handle_endtag(self, tag):
+        self.inside = None
+        if self.open[-1:] == [tag]:
+            self.open.pop()
+        else:
+            self.wrong.append((tag, self.open[-3:]))
+
+    def handle_data(self, data):
+        (self.scripts if self.inside == "script" else self.text).append(data)
+
+    def values(self, name):
+        """What attributes of that name are."""
+        return [value for own, value in self.attributes if own == name]
 
 
 def file_bytes(*path):

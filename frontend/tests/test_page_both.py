@@ -7,15 +7,14 @@ import unittest.mock
 from dataclasses import replace
 
 from facts_support import stored_texts
-from page_support import EXAMPLES, Folder, file_bytes, random_text, reference, solved, text
+from page_support import EXAMPLES, Folder, content_of, file_bytes, random_text, reference, solved, text
 from quick_solver import quick_report, quick_values
 
-from nllc_tools.base import nllc
 from nllc_tools.base.refusal import Refusal
 from nllc_tools.base.sentences import plain
 from nllc_tools.judge import verdicts
 from nllc_tools.judge.chain_sentences import step_brief, step_sentence
-from nllc_tools.judge.content import Content, explained
+from nllc_tools.judge.content import explained
 from nllc_tools.model.chains import chain, check
 from nllc_tools.model.facts import ALL
 from nllc_tools.model.faults import faults
@@ -31,14 +30,8 @@ def second(points, *lines):
     return text(points, *lines).replace(b"nll-facts 1", b"nll-facts 2", 1)
 
 
-def content_of(data):
-    facts, values = solved(data)
-    found = explained(facts, values, faults(facts, values), "nllc")
-    return Content(facts, values, found, "TEXT", None, "nllc.sh", nllc.PROVED)
-
-
 def with_both(data):
-    return replace(content_of(data), everywhere=content_of(widening.at_all_points(data)))
+    return replace(content_of(*solved(data)), everywhere=content_of(*solved(widening.at_all_points(data))))
 
 
 class Reading(unittest.TestCase):
@@ -118,7 +111,7 @@ class Both(unittest.TestCase):
         self.assertIn("Each region holds the same in both.", answers_part.both(content))
 
     def test_no_second_answer(self):
-        content = content_of(text(1, "return 0"))
+        content = content_of(*solved(text(1, "return 0")))
         self.assertEqual(answers_part.both(content), "")
         self.assertNotIn('class="answers"', page(content))
 
@@ -129,7 +122,7 @@ class Both(unittest.TestCase):
             self.assertEqual(first.constraints, other.constraints)
 
     def test_a_constraint_at_all_points_is_one(self):
-        content = content_of(file_bytes(EXAMPLES, "overwritten_everywhere.facts"))
+        content = content_of(*solved(file_bytes(EXAMPLES, "overwritten_everywhere.facts")))
         self.assertIn(" · 3 constraints", page(content))
 
 

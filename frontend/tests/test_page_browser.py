@@ -7,16 +7,14 @@ import tempfile
 import unittest
 from unittest import mock
 
-from page_support import EXAMPLES, SAMPLES, file_bytes, solved
+from page_support import EXAMPLES, SAMPLES, content_of, file_bytes, solved
 from test_page_glance import LOAN, SOURCE, content_of as loan_content
 
 import devtools
 from big_text import facts_text
 
 from nllc_tools.base import nllc
-from nllc_tools.judge.content import Content, Fault
-from nllc_tools.model.chains import chain
-from nllc_tools.model.faults import faults
+from nllc_tools.judge.content import Content
 from nllc_tools.texts.facts.reader import read_facts
 from nllc_tools.model.values import Values
 from nllc_tools.texts.source import Source
@@ -29,11 +27,6 @@ WIDTHS = (320, 414, 768, 1280, 1920)
 OVERFLOWING = """[...document.querySelectorAll("html, main, .lists, .fault, .step, .chosen, table")]
     .filter((one) => one.scrollWidth > one.clientWidth && one.getClientRects().length > 0)
     .map((one) => one.className || one.localName)"""
-
-
-def content_of(facts, values, source=None):
-    found = [Fault(a, b, chain(facts, values, a, b)) for a, b in faults(facts, values)]
-    return Content(facts, values, found, "TEXT", source, "nllc.sh", nllc.PROVED)
 
 
 def sample():

@@ -117,51 +117,34 @@ class Commands(Folder):
 
     # What is refused
 
-    def test_no_facts_text(self):
-        self.refused("isn't a facts text or a MIR text: .*`nll-mir 1` .*nllc.sh facts FILE.rs", self.write("none", b"none"))
-        self.refused("isn't a facts text", self.write("empty", b""))
-        self.refused("isn't a facts text", self.write("bytes", bytes(range(256))))
-
-    def test_no_file(self):
-        self.refused("missing.facts can't be read: No such file", self.path("missing.facts"))
-        self.refused("can't be read: Is a directory", self.room)
-
-    def test_a_text_that_nllc_refuses(self):
-        wrong = self.write("wrong.facts", text(1, "region 'x", "region 'x"))
-        self.refused("nllc refuses the text: nllc: line 4: duplicate", wrong)
+    def test_texts(self):
+        for path, said in (
+                (self.write("none", b"none"), "isn't a facts text or a MIR text: .*`nll-mir 1` .*nllc.sh facts FILE.rs"),
+                (self.write("empty", b""), "isn't a facts text"), (self.write("bytes", bytes(range(256))), "isn't a facts text"),
+                (self.path("missing.facts"), "missing.facts can't be read: No such file"),
+                (self.room, "can't be read: Is a directory"),
+                (self.write("wrong.facts", text(1, "region 'x", "region 'x")), "nllc refuses the text: nllc: line 4: duplicate")):
+            with self.subTest(said=said):
+                self.refused(said, path)
 
     def test_no_nllc(self):
-        self.refused("there is no program .*missing, which the variable NLLC names",
-                     self.path("pick.facts"),
-                     nllc="missing")
-        with mock.patch.object(nllc, "ROOT", self.path("nowhere")), mock.patch.dict(os.environ,
-                                                                                    {"PATH": ""}):
+        self.refused("there is no program .*missing, which the variable NLLC names", self.path("pick.facts"), nllc="missing")
+        with mock.patch.object(nllc, "ROOT", self.path("nowhere")), mock.patch.dict(os.environ, {"PATH": ""}):
             self.refused("no nllc is found: .* by the variable NLLC", self.path("pick.facts"), nllc=None)
 
     def test_an_nllc_that_fails(self):
-        self.program("failing", "echo nllc: memory >&2; exit 3")
-        self.refused("ended with status 3: nllc: memory$", self.path("pick.facts"),
-                     nllc="failing",
-                     status=3)
-
-    def test_values_and_faults_that_disagree(self):
-        self.program("lying", f'[ "$1" = check ] && {{ echo ok; exit 0; }}\n'
-                              f'exec "{sys.executable}" "{REFERENCE}" "$@"')
-        self.refused("the faults of .* aren't those of", self.path("pick.facts"), nllc="lying",
-                     status=3)
-
-    def answering(self, values):
-        """An nllc that checks as it ought to, and whose values a shell command prints."""
-        self.program("answering", f'[ "$1" = check ] && exec "{sys.executable}" "{REFERENCE}" "$@"\n{values}')
-
-    def test_values_that_do_not_follow(self):
-        self.answering(f'"{sys.executable}" "{REFERENCE}" "$@" | sed "s/^\'best: .*/\'best: 1 2 3 4 6 7/"')
-        self.refused("the values of .*answering don't follow from the text: no constraints bring",
-                     self.path("pick.facts"), nllc="answering")
-
-    def test_a_report_of_another_text(self):
-        self.answering("""echo "'static: 0 end('static)\"""")
-        self.refused("isn't the report of this facts text", self.path("pick.facts"), nllc="answering")
+        """One that ends, one that finds no fault, and two whose values don't follow or are of another text."""
+        slow = f'"{sys.executable}" "{REFERENCE}" "$@"'
+        checking = f'[ "$1" = check ] && exec {slow}\n'
+        for body, said, status in (
+                ("echo nllc: memory >&2; exit 3", "ended with status 3: nllc: memory$", 3),
+                (f'[ "$1" = check ] && {{ echo ok; exit 0; }}\nexec {slow}', "the faults of .* aren't those of", 3),
+                (f"{checking}{slow} | sed \"s/^'best: .*/'best: 1 2 3 4 6 7/\"",
+                 "the values of .*answering don't follow from the text: no constraints bring", 2),
+                (f"{checking}echo \"'static: 0 end('static)\"", "isn't the report of this facts text", 2)):
+            with self.subTest(said=said):
+                self.program("answering", body)
+                self.refused(said, self.path("pick.facts"), nllc="answering", status=status)
 
     def test_sources_that_are_none(self):
         self.write("pick.rs", b"\xff")
