@@ -38,10 +38,11 @@ class Pages(Command):
         self.assertIn("bb0/1", page)
         self.assertIn("The text’s problem from check/reference/reference_states.py", page)
 
-    def test_a_facts_text(self):
-        status, out, err = self.run_main(os.path.join(EXAMPLES, "chain.facts"))
-        self.assertEqual((status, err), (0, ""))
-        self.assertEqual(out[0], self.path("pages", "chain.html"))
+    def test_a_facts_text_and_a_struct_with_a_drop(self):
+        for name, page, said in (("chain.facts", "chain.html", "no fault"), ("drop.mir", "drop.mir.html", "drop _1 -&gt; bb1")):
+            status, out, err = self.run_main(os.path.join(EXAMPLES, name))
+            self.assertEqual((status, out[0], err), (0, self.path("pages", page), ""))
+            self.assertIn(said, self.page(page))
 
     def test_both_of_one_name(self):
         _, out, _ = self.run_main(*(os.path.join(EXAMPLES, f"running.{kind}") for kind in ("facts", "mir")))
@@ -54,11 +55,6 @@ class Pages(Command):
                 status, out, err = self.run_main("-")
             self.assertEqual((status, out[0], err), (0, self.path("pages", "stdin.html"), ""))
             self.assertIn(shown, self.page("stdin.html"))
-
-    def test_a_struct_with_a_drop(self):
-        status, _, err = self.run_main(os.path.join(EXAMPLES, "drop.mir"))
-        self.assertEqual((status, err), (0, ""))
-        self.assertIn("drop _1 -&gt; bb1", self.page("drop.mir.html"))
 
     def test_refusals(self):
         for name, data, said in (
