@@ -14,23 +14,19 @@ import tempfile
 from dataclasses import dataclass, field
 from typing import NamedTuple, Optional
 
-HERE = os.path.dirname(os.path.abspath(__file__))
-FRONTEND = os.path.dirname(HERE)
+from paths import TESTS as HERE
+
+from nllc_tools.base import nllc
+from nllc_tools.commands import answers as pages, rust
+from nllc_tools.model.moves import MOVES
+from nllc_tools.rustc import functions
+from nllc_tools.rustc.compiler import crate_name, find_rustc
+from nllc_tools.rustc.error_kinds import LIFETIMES, LOANS
+from nllc_tools.views.terminal import answers
+from quick_solver import quick_report
+
 SUITE = os.path.join(HERE, "errors")
 MEMORY = "/dev/shm" if os.path.isdir("/dev/shm") else None
-
-sys.path[:0] = [FRONTEND, HERE]
-
-from nllc_tools.base import nllc  # noqa: E402 (the path stands above)
-from nllc_tools.commands import answers as pages, rust  # noqa: E402
-from nllc_tools.model import faults  # noqa: E402
-from nllc_tools.model.moves import MOVES  # noqa: E402
-from nllc_tools.rustc import functions  # noqa: E402
-from nllc_tools.rustc.compiler import crate_name, find_rustc  # noqa: E402
-from nllc_tools.rustc.error_kinds import LIFETIMES, LOANS  # noqa: E402
-from nllc_tools.texts.facts.reader import read_facts  # noqa: E402
-from nllc_tools.views.terminal import answers  # noqa: E402
-from quick_solver import quick_values  # noqa: E402
 
 EDITION = re.compile(r"// edition: (\d+)\n")
 WHERE = re.compile(r"--> (.*):(\d+):(\d+)$", re.MULTILINE)
@@ -142,20 +138,6 @@ def at_home(span):
     while home["expansion"]:
         home = home["expansion"]["span"]
     return span if span["file_name"] == home["file_name"] else home
-
-
-def quick_report(text):
-    """What `nllc` would say of a text, by the quick solver."""
-    facts = read_facts(text, "TEXT")
-    values = quick_values(facts)
-    lines = [" ".join([f"'{name}:", *(facts_element(facts, one) for one in values.elements(region))])
-             for region, name in enumerate(facts.names)]
-    found = [(facts.names[long], facts.names[short]) for long, short in faults.faults(facts, values)]
-    return nllc.Report("".join(f"{line}\n" for line in lines), found, "quick", nllc.UNKNOWN)
-
-
-def facts_element(facts, number):
-    return str(number) if number < facts.points else f"end('{facts.names[number - facts.points]})"
 
 
 def side_by_side(work, things, chunk=4, processes=None):

@@ -10,9 +10,17 @@ import sys
 import tempfile
 from functools import cache
 
-HERE = os.path.dirname(os.path.abspath(__file__))
-FRONTEND = os.path.dirname(HERE)
-ROOT = os.path.dirname(FRONTEND)
+from paths import FRONTEND, ROOT, TESTS as HERE
+
+import reference  # the slow reader and solver of check/reference/
+from nllc_tools.rustc.compiler import CRATE
+from nllc_tools.rustc.dumps import find_dumps
+from nllc_tools.rustc.error_owners import own_errors
+from nllc_tools.rustc.errors import Error, Label
+from nllc_tools.rustc.mir.spans import Span
+from nllc_tools.texts.facts.conversion import convert
+from nllc_tools.texts.facts.writer import facts_text
+
 GOLDEN = os.path.join(HERE, "golden")
 DUMPS = os.path.join(HERE, "dumps")
 SOURCES = ("small", "rfc2094", "differ")
@@ -20,21 +28,8 @@ WRONG = ("borrowed_twice", "by_closures", "moved_or_assigned", "too_short", "lif
 MOVES = ("moves",)
 RIGHT = ("closures", "coroutines", "iterators", "right")
 
-sys.path[:0] = [FRONTEND, os.path.join(ROOT, "check", "reference")]
-
-import reference  # noqa: E402 (the slow reader and solver of check/reference/)
-from nllc_tools.rustc.compiler import CRATE  # noqa: E402
-from nllc_tools.rustc.dumps import find_dumps  # noqa: E402
-from nllc_tools.rustc.error_owners import own_errors  # noqa: E402
-from nllc_tools.rustc.errors import Error, Label  # noqa: E402
-from nllc_tools.rustc.mir.spans import Span  # noqa: E402
-from nllc_tools.texts.facts.conversion import convert  # noqa: E402
-from nllc_tools.texts.facts.writer import facts_text  # noqa: E402
-
 POINT = re.compile(r"# point (\d+): (?:line (\d+): )?(.*)")
 REGION = re.compile(r"# region '(\w+): (?:line (\d+): )?(.*)")
-
-
 KNOWN = "1.95."      # the release that the stored dumps are of, and that docs/FROM-RUST.md shows
 
 

@@ -1,23 +1,21 @@
-"""What the tests of pages share: small texts, values of the slow reference, random problems.
-"""
+"""What the tests of pages share: small texts, values of the slow reference, random problems."""
 
 import os
 import random
-import sys
-import tempfile
-import unittest
+from html.parser import HTMLParser
 
-HERE = os.path.dirname(os.path.abspath(__file__))
-ROOT = os.path.dirname(os.path.dirname(HERE))
-sys.path[:0] = [os.path.join(ROOT, "frontend"), os.path.join(ROOT, "check", "reference")]
+from paths import EXAMPLES, ROOT, TESTS  # noqa: F401 (others have them from here)
 
-import reference  # noqa: E402 (the paths stand above)
+import reference
+from rooms import Room
 
-from nllc_tools.texts.facts.reader import read_facts  # noqa: E402
-from nllc_tools.texts.facts.values import read_values  # noqa: E402
+from nllc_tools.base import nllc
+from nllc_tools.judge.content import Content, explained
+from nllc_tools.model.faults import faults
+from nllc_tools.texts.facts.reader import read_facts
+from nllc_tools.texts.facts.values import read_values
 
-SAMPLES = os.path.join(HERE, "page_samples")
-EXAMPLES = os.path.join(ROOT, "examples")
+SAMPLES = os.path.join(TESTS, "page_samples")
 
 
 def text(points, *lines, version=1):
@@ -34,6 +32,48 @@ def solved(data):
     report, status, _ = reference.answer("values", data)
     assert status == 0
     return facts, read_values(report.decode(), facts, "REPORT")
+
+
+def content_of(facts, values, source=None, path="TEXT", origin="nllc.sh", standing=nllc.PROVED):
+    """What a page shows of a problem with these values, with the chains of its faults."""
+    found = explained(facts, values, faults(facts, values), origin)
+    return Content(facts, values, found, path, source, origin, standing)
+
+
+class Markup(HTMLParser):
+    """The elements of a page, its attributes, scripts and text; which elements stay open, and which ends fit none."""
+
+    VOID = {"meta", "link", "input", "rect", "path", "br"}
+
+    def __init__(self, made):
+        super().__init__()
+        self.tags, self.attributes, self.scripts, self.text, self.open, self.wrong = [], [], [], [], [], []
+        self.inside = None
+        self.feed(made)
+
+    def handle_starttag(self, tag, attributes):
+        self.handle_startendtag(tag, attributes)
+        self.open += [tag] if tag not in self.VOID else []
+        self.inside = tag
+
+    def handle_startendtag(self, tag, attributes):
+        self.tags.append(tag)
+        self.attributes += attributes
+        self.inside = None
+
+    def handle_endtag(self, tag):
+        self.inside = None
+        if self.open[-1:] == [tag]:
+            self.open.pop()
+        else:
+            self.wrong.append((tag, self.open[-3:]))
+
+    def handle_data(self, data):
+        (self.scripts if self.inside == "script" else self.text).append(data)
+
+    def values(self, name):
+        """What attributes of that name are."""
+        return [value for own, value in self.attributes if own == name]
 
 
 def file_bytes(*path):
@@ -65,23 +105,9 @@ def random_text(seed, places=()):
     return text(points, *lines, version=2)
 
 
-class Folder(unittest.TestCase):
+class Folder(Room):
     """Each test has a folder of its own; `nllc` is a script there that runs the reference."""
 
     def setUp(self):
-        folder = tempfile.TemporaryDirectory()
-        self.addCleanup(folder.cleanup)
-        self.folder = folder.name
-        self.program("nllc", f'exec "{sys.executable}" "{ROOT}/check/reference/reference.py" "$@"')
-
-    def path(self, *name):
-        return os.path.join(self.folder, *name)
-
-    def write(self, name, data):
-        with open(self.path(name), "wb") as file:
-            file.write(data)
-        return self.path(name)
-
-    def program(self, name, body):
-        self.write(name, f"#!/bin/sh\n{body}\n".encode())
-        os.chmod(self.path(name), 0o755)
+        super().setUp()
+        self.slow()

@@ -5,8 +5,11 @@ The tests that compare it with the slow reference stand in test_loans_golden.
 
 from collections import deque
 
+from nllc_tools.base import nllc
 from nllc_tools.model.facts import ALL
+from nllc_tools.model.faults import faults
 from nllc_tools.model.values import Values
+from nllc_tools.texts.facts.reader import read_facts
 
 
 def reached(facts, inside, at):
@@ -49,3 +52,14 @@ def solve(facts):
 
 def quick_values(facts):
     return Values([[n for n in range(value.bit_length()) if value >> n & 1] for value in solve(facts)])
+
+
+def quick_report(text):
+    """What `nllc` would say of a text."""
+    facts = read_facts(text, "TEXT")
+    values = quick_values(facts)
+    elements = [*map(str, range(facts.points)), *(f"end('{name})" for name in facts.names)]
+    lines = [" ".join([f"'{name}:", *(elements[one] for one in values.elements(region))])
+             for region, name in enumerate(facts.names)]
+    found = [(facts.names[long], facts.names[short]) for long, short in faults(facts, values)]
+    return nllc.Report("".join(f"{line}\n" for line in lines), found, "quick", nllc.UNKNOWN)

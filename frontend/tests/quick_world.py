@@ -1,13 +1,10 @@
 #!/usr/bin/env python3
 """`world_program 1 round FILE SCHEDULE`, a stand-in for tests: the problem of a MIR text by the reference, and no more."""
 
-import os
 import sys
 
-HERE = os.path.dirname(os.path.realpath(__file__))
-sys.path.insert(0, os.path.join(os.path.dirname(os.path.dirname(HERE)), "check", "reference"))
-
-import reference  # noqa: E402 (the path stands above)
+import paths  # noqa: F401 (it puts the reference on the path)
+import reference
 
 ALL = -1
 

@@ -1,8 +1,6 @@
 """What the tests of schedules share: the slow model in place of the program, small texts."""
 
-import os
-
-from page_support import EXAMPLES, ROOT, file_bytes
+from page_support import EXAMPLES, file_bytes
 
 import reference_states  # page_support has put check/reference/ on the path
 from reference_world import Asked
@@ -10,8 +8,6 @@ from reference_world import Asked
 from nllc_tools.texts.facts.reader import read_facts
 from nllc_tools.texts.schedule_states import read_run
 from nllc_tools.views.schedule.content import Content
-
-REFERENCE = os.path.join(ROOT, "check", "reference", "reference_states.py")
 
 # The examples, each with the number of owners.
 SCHEDULES = {"each_other": 2, "late_hole": 3, "early_leave": 3}

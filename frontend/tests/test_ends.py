@@ -4,28 +4,18 @@ import os
 import shutil
 import subprocess
 import sys
-import tempfile
-import unittest
 
-ROOT = os.path.dirname(os.path.dirname(os.path.dirname(os.path.abspath(__file__))))
-RUN = [sys.executable, os.path.join(ROOT, "frontend", "run")]
-EXAMPLES = os.path.join(ROOT, "examples")
+from paths import EXAMPLES, FRONTEND
+from rooms import STATES, Room
+
+RUN = [sys.executable, os.path.join(FRONTEND, "run")]
 WORDS = ("rust", "facts", "mir", "page", "json", "schedule", "explain")
 
 
-class Ends(unittest.TestCase):
+class Ends(Room):
     def setUp(self):
-        self.room = tempfile.mkdtemp()
-        self.addCleanup(shutil.rmtree, self.room)
-        self.answers = {"NLLC": self.program("nllc", "reference.py"),
-                        "WORLD_PROGRAM": self.program("world", "reference_states.py")}
-
-    def program(self, name, script):
-        path = os.path.join(self.room, name)
-        with open(path, "w", encoding="utf-8") as file:
-            file.write(f'#!/bin/sh\nexec "{sys.executable}" "{ROOT}/check/reference/{script}" "$@"\n')
-        os.chmod(path, 0o755)
-        return path
+        super().setUp()
+        self.answers = {"NLLC": self.slow(), "WORLD_PROGRAM": self.slow("world", STATES)}
 
     def run_words(self, *words, redirect="", **more):
         """What the command prints, with a redirection of the shell."""
@@ -65,9 +55,9 @@ class Ends(unittest.TestCase):
         for work, said in (("raise OSError(errno.ENOENT, 'No such file or directory', 'a/b')", "a/b: No such file or directory"),
                            ("raise FileNotFoundError(errno.ENOENT, 'No usable folder')", "No usable folder"),
                            ("raise MemoryError", "out of memory")):
-            script = (f"import sys, errno; sys.path.insert(0, {os.path.join(ROOT, 'frontend')!r})\n"
+            script = ("import sys, errno\n"
                       f"from nllc_tools.base.streams import guarded\ndef work():\n    {work}\nsys.exit(guarded('page', work))\n")
-            done = subprocess.run([sys.executable, "-c", script], capture_output=True, check=False, encoding="utf-8")
+            done = subprocess.run([sys.executable, "-c", script], capture_output=True, check=False, encoding="utf-8", cwd=FRONTEND)
             self.assertEqual((done.returncode, done.stdout, done.stderr), (3, "", f"nllc.sh page: {said}\n"))
 
     def test_closed_standard_error(self):
@@ -94,7 +84,3 @@ class Ends(unittest.TestCase):
             self.assertEqual((done.returncode, done.stderr), (0, ""))
             self.assertIn("tatus", done.stdout)    # help says what the statuses are
             self.assertNotIn("\\", done.stdout)
-
-
-if __name__ == "__main__":
-    unittest.main()

@@ -243,7 +243,3 @@ class Reading(unittest.TestCase):
         self.assertEqual(support.wrongly_right(rows, self.said, lambda line: "third"), ["no fault: third"])
         self.assertEqual(support.wrong_status(rows, self.said), [])
         self.assertEqual(support.wrong_status([], self.said), ["status 1"])
-
-
-if __name__ == "__main__":
-    unittest.main()

@@ -7,11 +7,11 @@ import os
 import shutil
 import signal
 import subprocess
-import tempfile
 import time
 import unittest
 
 import facts_support as support
+import rooms
 
 FACTS = (os.path.join(support.FRONTEND, "run"), "facts")
 RUST = os.path.join(support.ROOT, "nllc.sh")
@@ -22,21 +22,8 @@ needs_rustc = unittest.skipUnless(VERSION, "no rustc")
 needs_known = unittest.skipUnless(VERSION.startswith(support.KNOWN), f"no rustc {support.KNOWN}x")
 
 
-class Room(unittest.TestCase):
+class Room(rooms.Room):
     """A folder for each test, and what a program leaves there."""
-
-    def setUp(self):
-        self.room = tempfile.mkdtemp()
-        self.addCleanup(shutil.rmtree, self.room)
-
-    def path(self, *names):
-        return os.path.join(self.room, *names)
-
-    def write(self, name, text):
-        os.makedirs(os.path.dirname(self.path(name)), exist_ok=True)
-        with open(self.path(name), "w", encoding="utf-8") as file:
-            file.write(text)
-        return self.path(name)
 
     def left(self):
         return sorted(os.path.relpath(os.path.join(place, name), self.room)
@@ -52,33 +39,31 @@ class Room(unittest.TestCase):
 
 @needs_known
 class Fresh(Room):
+    def facts(self, source, *words, out="o"):
+        return support.run(*FACTS, support.source_path(source), *words, "-o", self.path(out), cwd=support.HERE)
+
     def test_fresh_texts_are_the_golden_ones(self):
         for source in support.SOURCES:
             with self.subTest(source=source):
-                out = self.path(source)
-                done = support.run(*FACTS, support.source_path(source), "-o", out, cwd=support.HERE)
+                done = self.facts(source, out=source)
                 self.assertEqual(done.returncode, 0, done.stderr)
                 golden = support.golden_texts(source)
-                self.assertEqual(sorted(os.listdir(out)), sorted(golden))
+                self.assertEqual(sorted(os.listdir(self.path(source))), sorted(golden))
                 for name, text in golden.items():
-                    with open(os.path.join(out, name), encoding="utf-8") as file:
-                        self.assertEqual(file.read(), text, name)
+                    self.assertEqual(self.read(source, name), text, name)
 
     def test_one_function_by_name_and_by_line(self):
         for wanted in ("running", "15"):
-            done = support.run(*FACTS, support.source_path("rfc2094"), wanted, "-o", self.path("o"),
-                               cwd=support.HERE)
+            done = self.facts("rfc2094", wanted)
             self.assertIn("running: 74 points", done.stdout, done.stderr)
             self.assertEqual(os.listdir(self.path("o")), ["running.facts"])
 
     def test_method_by_type(self):
-        done = support.run(*FACTS, support.source_path("small"), "Pair::next", "-o", self.path("o"),
-                           cwd=support.HERE)
+        done = self.facts("small", "Pair::next")
         self.assertIn("impl0-next.facts", done.stdout, done.stderr)
 
     def test_rustc_refuses_borrows_alone(self):
-        done = support.run(*FACTS, support.source_path("differ"), "-o", self.path("o"),
-                           cwd=support.HERE)
+        done = self.facts("differ")
         self.assertEqual(done.returncode, 0)
         self.assertIn("lifetime may not live long enough", done.stderr)
 
@@ -88,9 +73,27 @@ class Refused(Room):
     def convert(self, text, *words, **options):
         return support.run(*FACTS, self.write("a.rs", text), *words, "-o", self.path("o"), **options)
 
-    def test_no_such_file(self):
-        done = support.run(*FACTS, self.path("none.rs"), "-o", self.path("o"))
-        self.refused(done, "none.rs isn't a readable file; give the path of a Rust file")
+    def test_what_is_refused(self):
+        for text, words, said in (
+                ("fn f(", (), "rustc refuses"),
+                ("pub struct S;\n", (), "has no function with a body"),
+                ("nll-facts 1\npoints 1\nend\n", (), "is a facts text, not a Rust file"),
+                ("nll-mir 1\n", (), "is a MIR text, not a Rust file"),
+                ("fn f() {}\ntrait T { fn g(&self); }\n", ("g",), "no function `g` has facts (one without a body has none, "
+                 "nor one whose types rustc refuses); these do: f"),
+                ("mod a { pub fn f() {} }\nmod b { pub fn f() {} }\n", ("f",), "`f` fits several functions: a::f (line 1), "
+                 "b::f (line 2); give one"),
+                ("fn f() {}\n", ("--", "-Znone-such"), "doesn't accept its arguments"),
+                ("fn f() {}\n", ("-p", "one"), "is a file, and -p is for projects")):
+            with self.subTest(text=text, words=words):
+                self.refused(self.convert(text, *words), said)
+
+    def test_what_is_no_file(self):
+        for words, said in (((self.path("none.rs"),), "none.rs isn't a readable file; give the path of a Rust file"),
+                            ((self.room,), "is in no Cargo project: give a Rust file, or the folder of a package"),
+                            ((os.path.join(support.ROOT, "examples", "shelf"), "--edition", "2024"),
+                             "a project states its own edition: leave out --edition")):
+            self.refused(support.run(*FACTS, *words, "-o", self.path("o")), said)
 
     def test_types_that_do_not_fit(self):
         done = self.convert('fn f() -> u8 {\n    "a"\n}\n')
@@ -113,52 +116,15 @@ class Refused(Room):
         self.assertIn("mismatched types", done.stderr)
         self.assertRegex(done.stderr, r"rustc refuses (line 2|\S+/m\.rs:2) before it checks borrows")
 
-    def test_texts_of_nllc(self):
-        for text, words in (("nll-facts 1\npoints 1\nend\n", "is a facts text, not a Rust file"),
-                            ("nll-mir 1\n", "is a MIR text, not a Rust file")):
-            self.refused(self.convert(text), words)
-
-    def test_no_rust(self):
-        self.refused(self.convert("fn f("), "rustc refuses")
-
-    def test_no_function(self):
-        self.refused(self.convert("pub struct S;\n"), "has no function with a body")
-
-    def test_unknown_name(self):
-        done = self.convert("fn f() {}\ntrait T { fn g(&self); }\n", "g")
-        self.refused(done, "no function `g` has facts (one without a body has none, "
-                     "nor one whose types rustc refuses); these do: f")
-
-    def test_name_of_several(self):
-        done = self.convert("mod a { pub fn f() {} }\nmod b { pub fn f() {} }\n", "f")
-        self.refused(done, "`f` fits several functions: a::f (line 1), b::f (line 2); give one")
-
-    def test_no_rustc(self):
-        done = self.convert("fn f() {}\n", env=os.environ | {"RUSTC": self.path("rustc")})
-        self.refused(done, "there is no rustc: install one")
-
-    def test_a_rustc_that_compiles_nothing(self):
-        done = self.convert("fn f() {}\n", env=os.environ | {"RUSTC": shutil.which("true")})
-        self.refused(done, "true reports success but has compiled nothing: is it rustc?")
-
-    def test_unknown_flags(self):
-        done = self.convert("fn f() {}\n", "--", "-Znone-such")
-        self.refused(done, "doesn't accept its arguments")
+    def test_another_rustc(self):
+        for rustc, said in ((self.path("rustc"), "there is no rustc: install one"),
+                            (shutil.which("true"), "true reports success but has compiled nothing: is it rustc?")):
+            self.refused(self.convert("fn f() {}\n", env=os.environ | {"RUSTC": rustc}), said)
 
     def test_folder_that_cannot_be_made(self):
         done = support.run(*FACTS, self.write("a.rs", "fn f() {}\n"), "-o", self.path("a.rs", "o"))
         self.assertEqual(done.returncode, 3)
         self.assertIn("can't be made", done.stderr)
-
-    def test_no_project(self):
-        done = support.run(*FACTS, self.room, "-o", self.path("o"))
-        self.refused(done, "is in no Cargo project: give a Rust file, or the folder of a package")
-
-    def test_words_of_the_other_form(self):
-        self.refused(self.convert("fn f() {}\n", "-p", "one"), "is a file, and -p is for projects")
-        done = support.run(*FACTS, os.path.join(support.ROOT, "examples", "shelf"), "--edition", "2024", "-o",
-                           self.path("o"))
-        self.refused(done, "a project states its own edition: leave out --edition")
 
 
 class Killed(Room):
@@ -176,8 +142,7 @@ class Killed(Room):
 
     def test_a_killed_run(self):
         self.seconds = f"61.{os.getpid()}{time.monotonic_ns()}"
-        rustc = self.write("rustc", f"#!/bin/sh\nexec sleep {self.seconds}\n")
-        os.chmod(rustc, 0o755)
+        rustc = self.program("rustc", f"exec sleep {self.seconds}")
         path, rooms = self.write("a.rs", "fn f() {}\n"), self.path("rooms")
         os.mkdir(rooms)
         for number, status in ((signal.SIGKILL, -9), (signal.SIGTERM, 130), (signal.SIGINT, 130), (signal.SIGHUP, 130)):
@@ -204,14 +169,12 @@ class OneCommand(Room):
 
     def setUp(self):
         super().setUp()
-        self.program = self.write("nllc", "#!/bin/sh\nexec python3 "
-                                  f"{support.ROOT}/check/reference/reference.py \"$@\"\n")
-        os.chmod(self.program, 0o755)
+        self.environment = os.environ | {"NLLC": self.slow()}
 
-    def rust(self, *words):
-        return subprocess.run([RUST, "rust", *words, "-o", self.path("o")], capture_output=True,
-                              check=False, cwd=support.HERE, encoding="utf-8",
-                              env=os.environ | {"NLLC": self.program})
+    def rust(self, *words, **options):
+        return subprocess.run([RUST, "rust", *words, "-o", self.path("o")], check=False,
+                              **{"stdout": subprocess.PIPE, "stderr": subprocess.PIPE, "cwd": support.HERE, "encoding": "utf-8",
+                                 "env": self.environment, **options})
 
     def line(self, source, code):
         with open(os.path.join(support.HERE, support.source_path(source)), encoding="utf-8") as file:
@@ -306,8 +269,7 @@ pub fn fifth(s: String) { let t = s;
         self.assertRegex(done.stdout, r"`'r\d+` is live at point \d+: .* \(line 6\) uses it\n")
 
     def test_standard_input(self):
-        done = subprocess.run([RUST, "rust", "-", "-o", self.path("o")], capture_output=True, check=False, input=self.LOANS,
-                              encoding="utf-8", env=os.environ | {"NLLC": self.program})
+        done = self.rust("-", input=self.LOANS)
         self.assertEqual(done.returncode, 1, done.stderr)
         self.assertIn(f"  {self.path('o', 'stdin.rs')}:5:5: E0502: ", done.stdout)
         self.assertTrue(os.path.isfile(self.path("o", "wrong.html")))
@@ -375,27 +337,20 @@ pub fn fifth(s: String) { let t = s;
     def test_where_output_goes(self):
         done = subprocess.run([RUST, "rust", os.path.join(support.HERE, support.source_path("differ")),
                                "last"], capture_output=True, check=False, cwd=self.room,
-                              encoding="utf-8", env=os.environ | {"NLLC": self.program})
+                              encoding="utf-8", env=self.environment)
         self.assertEqual(done.stdout.splitlines()[-1], "pages: out/rust/differ/index.html", done.stderr)
         self.assertEqual([name for name in self.left() if not name.startswith("out/rust/")], ["nllc"])
-        with open(self.path("out", "rust", ".gitignore"), encoding="utf-8") as file:
-            self.assertEqual(file.read(), "*\n")
+        self.assertEqual(self.read("out", "rust", ".gitignore"), "*\n")
 
     def test_any_locale(self):
-        env = os.environ | {"NLLC": self.program, "PYTHONIOENCODING": "ascii", "LC_ALL": "C",
-                            "PYTHONUTF8": "0", "PYTHONCOERCECLOCALE": "0"}
-        done = subprocess.run([RUST, "rust", support.source_path("differ"), "longer", "--explain",
-                               "-o", self.path("o")], capture_output=True, check=False,
-                              cwd=support.HERE, encoding="ascii", env=env)
+        env = self.environment | {"PYTHONIOENCODING": "ascii", "LC_ALL": "C", "PYTHONUTF8": "0", "PYTHONCOERCECLOCALE": "0"}
+        done = self.rust(support.source_path("differ"), "longer", "--explain", encoding="ascii", env=env)
         self.assertEqual(done.returncode, 1, done.stderr)
         self.assertIn(" -> ", done.stdout)
 
     def test_nowhere_to_write(self):
         with open("/dev/full", "w", encoding="utf-8") as full:
-            done = subprocess.run([RUST, "rust", support.source_path("differ"), "last", "-o",
-                                   self.path("o")], stdout=full, stderr=subprocess.PIPE, check=False,
-                                  cwd=support.HERE, encoding="utf-8",
-                                  env=os.environ | {"NLLC": self.program})
+            done = self.rust(support.source_path("differ"), "last", stdout=full)
         self.assertEqual((done.returncode, done.stderr), (3, "nllc.sh rust: standard output can't be "
                                                           "written: No space left on device\n"))
 
@@ -410,7 +365,3 @@ pub fn fifth(s: String) { let t = s;
         self.assertEqual(done.returncode, 2)
         self.assertEqual(done.stderr, "nllc.sh rust: none.rs isn't a readable file; "
                          "give the path of a Rust file\n")
-
-
-if __name__ == "__main__":
-    unittest.main()

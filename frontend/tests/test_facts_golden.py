@@ -186,7 +186,3 @@ class Dumps(unittest.TestCase):
             body = read_body(os.path.join(folder, "mir", "input.part.-------.nll.0.mir"))
         self.assertEqual(body.names, {0: "static", 1: "p", 2: "q"})
         self.assertEqual(body.locals[1].name, "pair")
-
-
-if __name__ == "__main__":
-    unittest.main()

@@ -1,15 +1,11 @@
 """The parts of the facts tool on small made-up inputs."""
 
-import contextlib
-import io
 import os
-import sys
-import tempfile
 import unittest
 from types import SimpleNamespace
-from unittest import mock
 
 import facts_support as support
+from rooms import Room
 from nllc_tools.base.files import free_path, write_whole
 from nllc_tools.base.refusal import Refusal
 from nllc_tools.commands.page import main as page
@@ -59,20 +55,13 @@ class Liveness(unittest.TestCase):
         return self.live(drop_of_var_derefs_origin=[(1, 5)], var_dropped_at=[(1, mid(4))],
                          path_is_var=[(7, 1)], **given)
 
-    def test_drop_of_what_is_there(self):
-        self.assertEqual(self.drops(path_assigned_at_base=[(7, mid(1))]), [2, 3, 4])
-
-    def test_drop_of_what_was_moved(self):
-        self.assertEqual(self.drops(path_assigned_at_base=[(7, mid(1))],
-                                    path_moved_at_base=[(7, mid(3))]), [])
-
-    def test_drop_of_what_was_moved_in_part(self):
-        self.assertEqual(self.drops(child_path=[(8, 7), (9, 7)],
-                                    path_assigned_at_base=[(7, mid(1))],
-                                    path_moved_at_base=[(8, mid(3))]), [2, 3, 4])
-
-    def test_drop_of_what_was_never_there(self):
-        self.assertEqual(self.drops(), [])
+    def test_drops(self):
+        """Of what is there, was moved, was moved in part, and was never there."""
+        assigned = {"path_assigned_at_base": [(7, mid(1))]}
+        for given, live in ((assigned, [2, 3, 4]), (assigned | {"path_moved_at_base": [(7, mid(3))]}, []),
+                            (assigned | {"child_path": [(8, 7), (9, 7)], "path_moved_at_base": [(8, mid(3))]}, [2, 3, 4]),
+                            ({}, [])):
+            self.assertEqual(self.drops(**given), live, given)
 
 
 class Merging(unittest.TestCase):
@@ -168,28 +157,23 @@ class Words(unittest.TestCase):
                          'x = "_1 \\" _1" _12 x')
 
 
-class Strange(unittest.TestCase):
+class Strange(Room):
     """Tables of another form are refused."""
 
     def test_missing_table(self):
-        with tempfile.TemporaryDirectory() as folder:
-            with self.assertRaisesRegex(Refusal, "rustc 1.95 is known to work"):
-                read_tables(folder)
+        with self.assertRaisesRegex(Refusal, "rustc 1.95 is known to work"):
+            read_tables(self.room)
 
     def test_row_of_another_form(self):
-        with tempfile.TemporaryDirectory() as folder:
-            for name in Tables.__dataclass_fields__:
-                with open(os.path.join(folder, f"{name}.facts"), "w", encoding="utf-8") as file:
-                    file.write('"a"\t"b"\n')
-            with self.assertRaisesRegex(Refusal, "another form"):
-                read_tables(folder)
+        for name in Tables.__dataclass_fields__:
+            self.write(f"{name}.facts", '"a"\t"b"\n')
+        with self.assertRaisesRegex(Refusal, "another form"):
+            read_tables(self.room)
 
     def test_everywhere_and_located(self):
-        with tempfile.TemporaryDirectory() as folder:
-            with open(os.path.join(folder, "subset_base.facts"), "w", encoding="utf-8") as file:
-                file.write('"\'?3"\t"\'?4"\t"Mid(bb0[1])"\n' '"\'?5"\t"\'?6"\t"Start(bb0[0])"\n'
-                           '"\'?5"\t"\'?6"\t"Mid(bb0[0])"\n')
-            subsets = Reader(folder).subsets()
+        self.write("subset_base.facts", '"\'?3"\t"\'?4"\t"Mid(bb0[1])"\n' '"\'?5"\t"\'?6"\t"Start(bb0[0])"\n'
+                   '"\'?5"\t"\'?6"\t"Mid(bb0[0])"\n')
+        subsets = Reader(self.room).subsets()
         self.assertEqual(subsets.everywhere, {(5, 6)})
         self.assertEqual(subsets.located, {(3, 4, mid(1))})
 
@@ -205,33 +189,23 @@ class Limits(unittest.TestCase):
             self.problem(256).check_limits()
 
 
-class Writing(unittest.TestCase):
+class Writing(Room):
     def test_nothing_half_written(self):
-        with tempfile.TemporaryDirectory() as folder:
-            path = os.path.join(folder, "f.facts")
-            with self.assertRaises(UnicodeEncodeError):
-                write_whole(path, "points 1\n\udc80")
-            self.assertEqual(os.listdir(folder), [])
-            write_whole(path, "points 1\n")
-            self.assertEqual(os.listdir(folder), ["f.facts"])
+        path = self.path("f.facts")
+        with self.assertRaises(UnicodeEncodeError):
+            write_whole(path, "points 1\n\udc80")
+        self.assertEqual(os.listdir(self.room), [])
+        write_whole(path, "points 1\n")
+        self.assertEqual(os.listdir(self.room), ["f.facts"])
 
 
-class Pages(unittest.TestCase):
+class Pages(Room):
     """A page is made of each text, with the values of the slow reference."""
 
     def test_pages_of_the_golden_texts(self):
-        with tempfile.TemporaryDirectory() as room:
-            program = os.path.join(room, "nllc")
-            with open(program, "w", encoding="utf-8") as file:
-                file.write(f'#!/bin/sh\nexec "{sys.executable}" "{support.ROOT}/check/reference/reference.py" "$@"\n')
-            os.chmod(program, 0o755)
-            for source in support.SOURCES:
-                folder = os.path.join(support.GOLDEN, source)
-                for name in sorted(os.listdir(folder)):
-                    with self.subTest(text=f"{source}/{name}"), mock.patch.dict(os.environ, {"NLLC": program}), \
-                            contextlib.redirect_stdout(io.StringIO()):
-                        self.assertEqual(page([os.path.join(folder, name), "-o", room]), 0)
-
-
-if __name__ == "__main__":
-    unittest.main()
+        self.slow()
+        for source in support.SOURCES:
+            folder = os.path.join(support.GOLDEN, source)
+            for name in sorted(os.listdir(folder)):
+                with self.subTest(text=f"{source}/{name}"):
+                    self.assertEqual(self.called(page, [os.path.join(folder, name), "-o", self.room], NLLC="nllc")[0], 0)

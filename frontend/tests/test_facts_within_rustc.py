@@ -88,7 +88,3 @@ def rustc_values(mir, numbers):
             points = {numbers[location] for location in locations(found[2])}
             values[int(found[1])] = points, {int(end) for end in UNIVERSAL.findall(found[2])}
     return values
-
-
-if __name__ == "__main__":
-    unittest.main()

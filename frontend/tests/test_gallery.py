@@ -14,6 +14,8 @@ from glob import glob
 from unittest import mock
 
 import page_support
+from paths import TESTS
+from rooms import STATES, Room
 from test_page_glance import LOAN, SOURCE, content_of
 
 from nllc_tools.commands import gallery
@@ -24,9 +26,8 @@ from nllc_tools.views.html.page import SCRIPTS
 from nllc_tools.views.html.index_rows import row_in
 from nllc_tools.views.html.writing import compact
 
-GOLDEN = os.path.join(page_support.HERE, "golden", "gallery.txt")
-QUICK = os.path.join(page_support.HERE, "quick_nllc.py")
-SLOW = os.path.join(page_support.ROOT, "check", "reference", "reference_states.py")
+GOLDEN = os.path.join(TESTS, "golden", "gallery.txt")
+QUICK = os.path.join(TESTS, "quick_nllc.py")
 
 
 class Cards(unittest.TestCase):
@@ -79,7 +80,7 @@ def make(folder):
     """Makes the gallery with the quick stand-ins for programs; the status, and what is printed."""
     out, err, before = io.StringIO(), io.StringIO(), os.getcwd()
     try:
-        with mock.patch.dict(os.environ, NLLC=QUICK, WORLD_PROGRAM=SLOW), redirect_stdout(out), redirect_stderr(err):
+        with mock.patch.dict(os.environ, NLLC=QUICK, WORLD_PROGRAM=STATES), redirect_stdout(out), redirect_stderr(err):
             return gallery.main([folder]), out.getvalue(), err.getvalue()
     finally:
         os.chdir(before)
@@ -133,13 +134,10 @@ class Whole(unittest.TestCase):
             self.assertIn('<a class="back" href="./index.html">', page_support.file_bytes(os.path.join(self.folder, name)).decode())
 
 
-class Command(unittest.TestCase):
-    def run_main(self, *words, **environment):
-        out, err = io.StringIO(), io.StringIO()
-        before = os.getcwd()
-        self.addCleanup(os.chdir, before)
-        with mock.patch.dict(os.environ, environment), redirect_stdout(out), redirect_stderr(err):
-            return gallery.main(list(words)), out.getvalue(), err.getvalue()
+class Command(Room):
+    def run_main(self, *words, **programs):
+        self.addCleanup(os.chdir, os.getcwd())
+        return self.called(gallery.main, list(words), **programs)
 
     def test_words(self):
         self.assertEqual(self.run_main("--help")[0::2], (0, ""))
@@ -149,16 +147,11 @@ class Command(unittest.TestCase):
 
     @unittest.skipUnless(shutil.which("rustc"), "no rustc")
     def test_one_file_one_text_and_one_schedule(self):
-        with tempfile.TemporaryDirectory() as folder, \
-                mock.patch.multiple(gallery, FILES={"variance": "Variance"}, MIR_TEXTS={"drop": ("w", "A drop.")},
-                                    SCHEDULES={"each_other": "Two owners."}):
-            status, out, err = self.run_main(folder, NLLC=QUICK, WORLD_PROGRAM=SLOW)
-            self.assertEqual((status, out, err), (0, os.path.join(folder, "index.html") + "\n", ""))
-            made = sorted(os.listdir(folder))
-            with open(os.path.join(folder, "index.html"), encoding="utf-8") as file:
-                whole = file.read()
-            with open(os.path.join(folder, "each_other.schedule.html"), encoding="utf-8") as file:
-                self.assertIn('<a class="back" href="./index.html">', file.read())
+        with mock.patch.multiple(gallery, FILES={"variance": "Variance"}, MIR_TEXTS={"drop": ("w", "A drop.")},
+                                 SCHEDULES={"each_other": "Two owners."}):
+            self.assertEqual(self.run_main(self.room, NLLC=QUICK, WORLD_PROGRAM=STATES), (0, self.path("index.html") + "\n", ""))
+        made, whole = sorted(os.listdir(self.room)), self.read("index.html")
+        self.assertIn('<a class="back" href="./index.html">', self.read("each_other.schedule.html"))
         self.assertIn("cell_is_invariant.html", made)
         self.assertEqual(sorted({*re.findall(r'href="\./([^"#]*)', whole), "index.html"}), made)
         self.assertIn('href="./drop.mir.html#region=w"', whole)

@@ -3,16 +3,13 @@ and with two sets of fonts; and every control of one page of each kind."""
 
 import os
 import shutil
-import sys
 import tempfile
 import unittest
 import xml.etree.ElementTree as ElementTree
 
 from test_gallery import make
 
-sys.path.insert(0, os.path.join(os.path.dirname(os.path.abspath(__file__)), "browser"))
-
-import devtools  # noqa: E402 (the path stands above)
+import devtools
 
 HAS_ALL = bool(shutil.which("rustc")) and any(map(shutil.which, devtools.NAMES))
 ROOM = tempfile.TemporaryDirectory()
@@ -310,7 +307,3 @@ class Controls(unittest.TestCase):
         self.assertEqual(shown.value("probe.nodes('.waiting > p').map((one) => one.textContent)"), ["Nobody waits."])
         self.assertEqual(shown.value("probe.nodes('#events .why').map((one) => one.textContent)[0]"),
                          "The box from owner 1 to owner 0 is empty.")
-
-
-if __name__ == "__main__":
-    unittest.main()

@@ -211,7 +211,3 @@ class Checker(unittest.TestCase):
             self.assertEqual(len(errors(copy.deepcopy(self.RIGHT) | {name: value}, self.SCHEMA)), 1, (name, value))
         self.assertEqual(errors({"a": [0, 1]}, self.SCHEMA), ["$: no b"])
         self.assertEqual(errors([], self.SCHEMA), ["$: no object"])
-
-
-if __name__ == "__main__":
-    unittest.main()

@@ -62,7 +62,3 @@ class Made(unittest.TestCase):
         edges = edges_of(views__two="from nllc_tools.rustc.one import name\nfrom nllc_tools.views import three",
                          views__three="import json", rustc__one="")
         self.assertEqual((layers.upward(edges), layers.cycle(edges)), ([], []))
-
-
-if __name__ == "__main__":
-    unittest.main()

@@ -17,7 +17,7 @@ from nllc_tools.judge.content import Content, Fault
 from nllc_tools.judge.findings import findings
 from nllc_tools.model import chains, faults
 from nllc_tools.rustc.error_kinds import LIFETIMES, LOANS
-from nllc_tools.texts import source as sources
+from nllc_tools.texts.source import source_of
 from nllc_tools.texts.facts.reader import read_facts
 from quick_solver import quick_values
 
@@ -34,7 +34,7 @@ def content_of(text, source=None):
     needs = faults.needs(facts, found)
     wrong = [Fault(sup, sub, chains.chain(facts, values, sup, sub))
              for sup, sub in found if (sup, sub) not in needs]
-    lines = sources.read(os.path.join(support.HERE, support.source_path(source)), facts) if source else None
+    lines = source_of(facts, os.path.join(support.HERE, "TEXT")) if source else None
     return Content(facts, values, wrong, "TEXT", lines, "", "", list(loan_faults(facts, values)), needs)
 
 
@@ -189,7 +189,3 @@ class Solver(unittest.TestCase):
     def compare(self, text):
         facts, values = page_support.solved(text)
         self.assertEqual(quick_values(facts).rows, values.rows)
-
-
-if __name__ == "__main__":
-    unittest.main()

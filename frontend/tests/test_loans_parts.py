@@ -1,11 +1,10 @@
 """The parts by which loans are found and told, on small made-up inputs."""
 
 import json
-import os
-import tempfile
 import unittest
 
 import page_support
+from rooms import Room
 from nllc_tools.base.sentences import plain
 from nllc_tools.judge import differences
 from nllc_tools.judge.as_rustc import blame, causes, lifetimes, loan_faults
@@ -27,8 +26,7 @@ from nllc_tools.rustc.mir.statement_reader import read_line, read_place
 from nllc_tools.rustc.mir.statements import Place, Step
 from nllc_tools.rustc.mir.type_reader import read_type
 from nllc_tools.model.said import Place as SourcePlace
-from nllc_tools.texts.snippets import snippet, whole_line
-from nllc_tools.texts.source import Source
+from nllc_tools.texts.source import Source, snippet, whole_line
 from nllc_tools.views.terminal import finding_lines
 import nllc_tools.base.streams  # noqa: F401 (the codec `plain`)
 from quick_solver import quick_values
@@ -135,7 +133,7 @@ class Accesses(unittest.TestCase):
         self.assertFalse(write.disturbs("mut", Place(2)))
 
 
-class RustcsWords(unittest.TestCase):
+class RustcsWords(Room):
     def test_reasons(self):
         found = reason_of("| '?7: '?8 due to Return(Normal) at Single(bb5[2]) (a.rs:21:5: 21:9 (#0)")
         self.assertEqual((found.sup, found.sub, found.category, str(found.location)),
@@ -146,12 +144,8 @@ class RustcsWords(unittest.TestCase):
         self.assertIsNone(reason_of("| '?1 live at {bb0[0]}"))
 
     def test_the_name_of_a_crate(self):
-        with tempfile.TemporaryDirectory() as folder:
-            path = os.path.join(folder, "a.rs")
-            for text, name in (('#![no_std]\n#![crate_name = "other"]\n', "other"), ("fn f() {}\n", "input")):
-                with open(path, "w", encoding="utf-8") as file:
-                    file.write(text)
-                self.assertEqual(crate_name(path), name)
+        for text, name in (('#![no_std]\n#![crate_name = "other"]\n', "other"), ("fn f() {}\n", "input")):
+            self.assertEqual(crate_name(self.write("a.rs", text)), name)
 
     def test_errors_in_macros(self):
         inner = '{"file_name": "/rustc/none/macros.rs", "line_start": 1, "column_start": 1, ' \
@@ -399,21 +393,13 @@ class AnyLocale(unittest.TestCase):
 
 
 class Snippets(unittest.TestCase):
-    def place(self, *numbers):
-        return SourcePlace(*numbers)
-
     def test_words_of_a_place(self):
-        self.assertEqual(snippet(SOURCE, self.place(1, 9, 1, 11)), "&a")
-        self.assertEqual(snippet(SOURCE, self.place(2, 5, 3, 8)), "a = 1; ..")
-        self.assertEqual(snippet(SOURCE, self.place(9, 1, 9, 2)), "")
-        self.assertEqual(snippet(None, self.place(1, 1, 1, 2)), "")
+        for source, numbers, words in ((SOURCE, (1, 9, 1, 11), "&a"), (SOURCE, (2, 5, 3, 8), "a = 1; .."),
+                                       (SOURCE, (9, 1, 9, 2), ""), (None, (1, 1, 1, 2), "")):
+            self.assertEqual(snippet(source, SourcePlace(*numbers)), words)
         self.assertEqual(snippet(SOURCE, None), "")
 
     def test_a_whole_line(self):
         self.assertEqual(whole_line(SOURCE, 3), "show(y);")
         self.assertEqual(whole_line(Source("", 1, ["x" * 80]), 1), "x" * 47 + " ..")
         self.assertEqual(whole_line(SOURCE, 4), "")
-
-
-if __name__ == "__main__":
-    unittest.main()

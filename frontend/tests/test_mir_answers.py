@@ -1,10 +1,10 @@
 """`nllc.sh mir`, and `nllc.sh rust --from-mir`, which tells the same faults at the same lines by nllc's own rules."""
 
 import os
-import tempfile
 import unittest
 
 import facts_support as support
+from rooms import Room
 
 RUN = os.path.join(support.FRONTEND, "run")
 STAND_INS = {"NLLC": os.path.join(support.HERE, "quick_nllc.py"),
@@ -16,56 +16,41 @@ def run(*words):
 
 
 @unittest.skipUnless(support.rustc_release().startswith(support.KNOWN), "rustc 1.95 isn't there")
-class FromMir(unittest.TestCase):
+class FromMir(Room):
     def both_ways(self, source):
-        with tempfile.TemporaryDirectory() as folder:
-            plain = run("rust", source, "-o", folder)
-            by_rules = run("rust", source, "--from-mir", "-o", folder)
-            self.assertEqual((by_rules.stdout, by_rules.stderr), (plain.stdout, ""))
-            self.assertEqual(by_rules.returncode, plain.returncode)
-            return plain.stdout, pages_in(folder)
+        plain = run("rust", source, "-o", self.room)
+        by_rules = run("rust", source, "--from-mir", "-o", self.room)
+        self.assertEqual((by_rules.returncode, by_rules.stdout, by_rules.stderr), (plain.returncode, plain.stdout, ""))
+        return plain.stdout
 
     def test_faults(self):
-        told, pages = self.both_ways("examples/three.rs")
+        told = self.both_ways("examples/three.rs")
         self.assertIn("examples/three.rs:24:5: `'b` must outlive `'a`", told)
-        self.assertIn("nllc&#x27;s rules, of the function&#x27;s MIR text.", pages["longer.html"])
+        self.assertIn("nllc&#x27;s rules, of the function&#x27;s MIR text.", self.read("longer.html"))
 
     def test_loans(self):
-        told, _ = self.both_ways("examples/loans.rs")
-        self.assertIn("examples/loans.rs:8:5: E0499", told)
-
-
-def pages_in(folder):
-    found = {}
-    for name in os.listdir(folder):
-        if name.endswith(".html"):
-            with open(os.path.join(folder, name), encoding="utf-8") as file:
-                found[name] = file.read()
-    return found
+        self.assertIn("examples/loans.rs:8:5: E0499", self.both_ways("examples/loans.rs"))
 
 
 @unittest.skipUnless(support.rustc_release().startswith(support.KNOWN), "rustc 1.95 isn't there")
-class Texts(unittest.TestCase):
+class Texts(Room):
     def test_a_file(self):
-        with tempfile.TemporaryDirectory() as folder:
-            done = run("mir", "frontend/tests/sources/forms.rs", "-o", folder)
-            self.assertEqual(len(done.stdout.splitlines()), 73)
-            self.assertEqual(done.stderr.splitlines(), [
-                "nllc.sh mir: waits::{closure#0}: a coroutine", "nllc.sh mir: two_parts: captures that rustc doesn't print",
-                "nllc.sh mir: 73 texts; without one 1 for a coroutine, 1 for captures that rustc doesn't print"])
-            self.assertEqual(sorted(os.listdir(folder)), sorted(map(os.path.basename, done.stdout.splitlines())))
-            self.assertEqual(done.returncode, 0)
+        done = run("mir", "frontend/tests/sources/forms.rs", "-o", self.room)
+        self.assertEqual(len(done.stdout.splitlines()), 73)
+        self.assertEqual(done.stderr.splitlines(), [
+            "nllc.sh mir: waits::{closure#0}: a coroutine", "nllc.sh mir: two_parts: captures that rustc doesn't print",
+            "nllc.sh mir: 73 texts; without one 1 for a coroutine, 1 for captures that rustc doesn't print"])
+        self.assertEqual(sorted(os.listdir(self.room)), sorted(map(os.path.basename, done.stdout.splitlines())))
+        self.assertEqual(done.returncode, 0)
 
     def test_one_function(self):
-        with tempfile.TemporaryDirectory() as folder:
-            done = run("mir", "examples/three.rs", "longer", "-o", folder)
-            self.assertEqual((done.stdout, done.stderr), (f"{folder}/longer.mir\n", ""))
+        done = run("mir", "examples/three.rs", "longer", "-o", self.room)
+        self.assertEqual((done.stdout, done.stderr), (self.path("longer.mir") + "\n", ""))
 
     def test_a_crate(self):
-        with tempfile.TemporaryDirectory() as folder:
-            done = run("mir", "examples/shelf", "-o", folder, "--", "--quiet")
-            self.assertIn(f"{folder}/words-counted.mir", done.stdout.splitlines())
-            self.assertEqual(done.returncode, 0)
+        done = run("mir", "examples/shelf", "-o", self.room, "--", "--quiet")
+        self.assertIn(self.path("words-counted.mir"), done.stdout.splitlines())
+        self.assertEqual(done.returncode, 0)
 
     def test_refused(self):
         for words, said in ((["nothing.rs"], "nothing.rs isn't a readable file; give the path of a Rust file"),
@@ -75,7 +60,3 @@ class Texts(unittest.TestCase):
             with self.subTest(words=words):
                 self.assertIn(said, done.stderr)
                 self.assertEqual((done.stdout, done.returncode), ("", 2))
-
-
-if __name__ == "__main__":
-    unittest.main()

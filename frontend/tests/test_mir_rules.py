@@ -3,18 +3,14 @@
 The rules are those of the slow reference, which stands for nllc; `check/run rules` compares by nllc itself.
 """
 
-import os
-import sys
 import unittest
 from types import SimpleNamespace
 
 import facts_support as support
 import mir_support as mir
 
-sys.path.insert(0, os.path.join(support.ROOT, "check", "rules"))
-
-import classes  # noqa: E402 (the path stands above)
-import sides  # noqa: E402
+import classes
+import sides
 
 # Of each function that isn't the same both ways the classes, found by reading: `loud` may be moved out before its drop,
 # and what goes to `*loud` is moved out of a temporary, which rustc drops all the same. `kept` is moved before its drop, and
@@ -85,7 +81,3 @@ class Between(unittest.TestCase):
     def test_what_follows(self):
         constraints = {(1, 2, 5), (2, 3, sides.ALL), (3, 4, 6)}
         self.assertEqual(sides.closed(constraints, {5}), {(1, 2, 5), (1, 3, 5), (2, 3, 5)})
-
-
-if __name__ == "__main__":
-    unittest.main()

@@ -200,7 +200,3 @@ class BadDumps(unittest.TestCase):
         """As a dump without -Zverbose-internals is."""
         made = self.changed(lambda text: text.replace("&'?", "&'"))
         self.assertEqual((made.text, bool(made.reason)), ("", True))
-
-
-if __name__ == "__main__":
-    unittest.main()

@@ -136,7 +136,3 @@ class Lines(unittest.TestCase):
             with self.subTest(terminator=text):
                 found = read_terminator(text)
                 self.assertEqual((type(found), found.reason.reason, found.operands), (Foreign, reason, operands))
-
-
-if __name__ == "__main__":
-    unittest.main()

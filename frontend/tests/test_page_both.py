@@ -7,15 +7,14 @@ import unittest.mock
 from dataclasses import replace
 
 from facts_support import stored_texts
-from page_support import EXAMPLES, Folder, file_bytes, random_text, reference, solved, text
-from quick_solver import quick_values
+from page_support import EXAMPLES, Folder, content_of, file_bytes, random_text, reference, solved, text
+from quick_solver import quick_report, quick_values
 
-from nllc_tools.base import nllc
 from nllc_tools.base.refusal import Refusal
 from nllc_tools.base.sentences import plain
-from nllc_tools.judge import two_answers
+from nllc_tools.judge import verdicts
 from nllc_tools.judge.chain_sentences import step_brief, step_sentence
-from nllc_tools.judge.content import Content, explained
+from nllc_tools.judge.content import explained
 from nllc_tools.model.chains import chain, check
 from nllc_tools.model.facts import ALL
 from nllc_tools.model.faults import faults
@@ -24,21 +23,15 @@ from nllc_tools.texts.facts.reader import read_facts
 from nllc_tools.views.html.page import page
 from nllc_tools.views.html.parts import answers_part
 from nllc_tools.views.html.parts.region_list import region_list
-from nllc_tools.views.terminal import second_answer
+from nllc_tools.views.terminal.explaining import second_answer
 
 
 def second(points, *lines):
     return text(points, *lines).replace(b"nll-facts 1", b"nll-facts 2", 1)
 
 
-def content_of(data):
-    facts, values = solved(data)
-    found = explained(facts, values, faults(facts, values), "nllc")
-    return Content(facts, values, found, "TEXT", None, "nllc.sh", nllc.PROVED)
-
-
 def with_both(data):
-    return replace(content_of(data), everywhere=content_of(widening.at_all_points(data)))
+    return replace(content_of(*solved(data)), everywhere=content_of(*solved(widening.at_all_points(data))))
 
 
 class Reading(unittest.TestCase):
@@ -98,10 +91,10 @@ class Both(unittest.TestCase):
 
     def test_a_fault_in_the_second_alone(self):
         content = with_both(file_bytes(EXAMPLES, "overwritten.facts"))
-        self.assertEqual(two_answers.counted(content), "no fault")
-        self.assertEqual(two_answers.counted(content.everywhere), "1 fault")
-        self.assertEqual([content.facts.names[r] for r in two_answers.differing(content, content.everywhere)], ["a", "p"])
-        told = list(second_answer.lines(content))
+        self.assertEqual(verdicts.in_words(content), "no fault")
+        self.assertEqual(verdicts.in_words(content.everywhere), "1 fault")
+        self.assertEqual([content.facts.names[r] for r in verdicts.differing(content, content.everywhere)], ["a", "p"])
+        told = list(second_answer(content))
         self.assertEqual(told[0], "with each constraint at all points: 1 fault, in place of no fault")
         made = page(content)
         self.assertIn('<section class="answers"', made)
@@ -114,11 +107,11 @@ class Both(unittest.TestCase):
 
     def test_both_the_same(self):
         content = with_both(text(1, "universal 'a", "return 0", "constraint 'static 'a 0"))
-        self.assertEqual(list(second_answer.lines(content)), [])
+        self.assertEqual(list(second_answer(content)), [])
         self.assertIn("Each region holds the same in both.", answers_part.both(content))
 
     def test_no_second_answer(self):
-        content = content_of(text(1, "return 0"))
+        content = content_of(*solved(text(1, "return 0")))
         self.assertEqual(answers_part.both(content), "")
         self.assertNotIn('class="answers"', page(content))
 
@@ -129,7 +122,7 @@ class Both(unittest.TestCase):
             self.assertEqual(first.constraints, other.constraints)
 
     def test_a_constraint_at_all_points_is_one(self):
-        content = content_of(file_bytes(EXAMPLES, "overwritten_everywhere.facts"))
+        content = content_of(*solved(file_bytes(EXAMPLES, "overwritten_everywhere.facts")))
         self.assertIn(" · 3 constraints", page(content))
 
 
@@ -155,7 +148,6 @@ class Command(Folder):
 
     def test_of_which_nothing_is_told_is_known_without_values(self):
         """Of all stored texts: what is said of one without reading it is what is said of it when it is read."""
-        from errors_support import quick_report
         from nllc_tools.base import nllc
         from nllc_tools.judge import silence
         from nllc_tools.judge.content import content_of
@@ -180,7 +172,3 @@ def all_texts():
     """Texts of right and of wrong functions, with loans that something conflicts with in both."""
     for source in ("differ", "right", "iterators", "coroutines", "borrowed_twice", "moves"):
         yield from ((f"{source}/{name}", text.encode()) for name, text in sorted(stored_texts(source).items()))
-
-
-if __name__ == "__main__":
-    unittest.main()

@@ -3,40 +3,30 @@
 import os
 import re
 import shutil
-import sys
 import tempfile
 import unittest
 from unittest import mock
 
-from page_support import EXAMPLES, SAMPLES, file_bytes, solved
+from page_support import EXAMPLES, SAMPLES, content_of, file_bytes, solved
 from test_page_glance import LOAN, SOURCE, content_of as loan_content
 
-sys.path.insert(0, os.path.join(os.path.dirname(os.path.abspath(__file__)), "browser"))
+import devtools
+from big_text import facts_text
 
-import devtools  # noqa: E402 (the path stands above)
-from big_text import facts_text  # noqa: E402
-
-from nllc_tools.base import nllc  # noqa: E402
-from nllc_tools.judge.content import Content, Fault  # noqa: E402
-from nllc_tools.model.chains import chain  # noqa: E402
-from nllc_tools.model.faults import faults  # noqa: E402
-from nllc_tools.texts.facts.reader import read_facts  # noqa: E402
-from nllc_tools.model.values import Values  # noqa: E402
-from nllc_tools.texts.source import Source  # noqa: E402
-from nllc_tools.views.html.index import index_parts  # noqa: E402
-from nllc_tools.views.html.index_rows import Row  # noqa: E402
-from nllc_tools.views.html.page import page  # noqa: E402
-from nllc_tools.views.html.writing import fill  # noqa: E402
+from nllc_tools.base import nllc
+from nllc_tools.judge.content import Content
+from nllc_tools.texts.facts.reader import read_facts
+from nllc_tools.model.values import Values
+from nllc_tools.texts.source import Source
+from nllc_tools.views.html.index import index_parts
+from nllc_tools.views.html.index_rows import Row
+from nllc_tools.views.html.page import page
+from nllc_tools.views.html.writing import fill
 
 WIDTHS = (320, 414, 768, 1280, 1920)
 OVERFLOWING = """[...document.querySelectorAll("html, main, .lists, .fault, .step, .chosen, table")]
     .filter((one) => one.scrollWidth > one.clientWidth && one.getClientRects().length > 0)
     .map((one) => one.className || one.localName)"""
-
-
-def content_of(facts, values, source=None):
-    found = [Fault(a, b, chain(facts, values, a, b)) for a, b in faults(facts, values)]
-    return Content(facts, values, found, "TEXT", source, "nllc.sh", nllc.PROVED)
 
 
 def sample():
@@ -171,7 +161,3 @@ class Browser(unittest.TestCase):
                          shown.probe("elements", ".graph.folded .cell"),
                          shown.probe("elements", ".graph.folded .cell.held")))
         self.assertEqual(*said)
-
-
-if __name__ == "__main__":
-    unittest.main()

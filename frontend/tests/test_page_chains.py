@@ -143,7 +143,3 @@ class Chains(unittest.TestCase):
         values.sets.clear()
         with self.assertRaises(chains.WrongValues):
             chains.chain(facts, values, 2, 1)
-
-
-if __name__ == "__main__":
-    unittest.main()

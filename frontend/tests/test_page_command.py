@@ -1,23 +1,20 @@
 """The command: the page that it writes, and each refusal, after which nothing is left."""
 
-import io
 import os
 import stat
 import subprocess
 import sys
 import time
-import unittest
-from contextlib import redirect_stderr, redirect_stdout
 from unittest import mock
 
-from page_support import ROOT, SAMPLES, Folder, file_bytes, text
+from page_support import SAMPLES, Folder, file_bytes, text
+from paths import ROOT
+from rooms import REFERENCE
 
 from nllc_tools.base import nllc
 from nllc_tools.commands import answers
 from nllc_tools.commands.page import main
 from nllc_tools.views.terminal import finding_lines
-
-REFERENCE = os.path.join(ROOT, "check", "reference", "reference.py")
 
 
 class Commands(Folder):
@@ -27,23 +24,10 @@ class Commands(Folder):
         self.write("pick.rs", file_bytes(SAMPLES, "pick.rs"))
 
     def run_main(self, *words, nllc="nllc"):
-        out, err = io.StringIO(), io.StringIO()
-        with mock.patch.dict(os.environ, {"NLLC": self.path(nllc)} if nllc else {}), \
-                redirect_stdout(out), redirect_stderr(err):
-            status = main([*words, "-o", self.folder])
-        return status, out.getvalue(), err.getvalue()
-
-    def refused(self, pattern, *words, status=2, **more):
-        before = sorted(os.listdir(self.folder))
-        got, out, err = self.run_main(*words, **more)
-        self.assertEqual((got, out), (status, ""))
-        self.assertRegex(err, pattern)
-        self.assertEqual(err.count("\n"), 1, err)
-        self.assertEqual(sorted(os.listdir(self.folder)), before)
+        return self.called(main, [*words, "-o", self.room], **({"NLLC": nllc} if nllc else {}))
 
     def page(self, name="pick.html"):
-        with open(self.path(name), encoding="utf-8") as file:
-            return file.read()
+        return self.read(name)
 
     # What is written
 
@@ -80,7 +64,7 @@ class Commands(Folder):
     def test_faults_in_words(self):
         said = self.answered()
         self.assertEqual(finding_lines.lines(said.path, said.findings[0].finding), [
-            f"{self.folder}/pick.rs:7: `'b` must outlive `'a`, but the signature doesn't declare it",
+            f"{self.room}/pick.rs:7: `'b` must outlive `'a`, but the signature doesn't declare it",
             "    data that lives for `'b` flows into `'a` at line 7 (`best = second;`) and line 9 (`best`)",
             "    help: consider adding the bound `'b: 'a` to the signature; or write `'a` in place of `'b`; "
             "or return an owned value"])
@@ -133,51 +117,34 @@ class Commands(Folder):
 
     # What is refused
 
-    def test_no_facts_text(self):
-        self.refused("isn't a facts text or a MIR text: .*`nll-mir 1` .*nllc.sh facts FILE.rs", self.write("none", b"none"))
-        self.refused("isn't a facts text", self.write("empty", b""))
-        self.refused("isn't a facts text", self.write("bytes", bytes(range(256))))
-
-    def test_no_file(self):
-        self.refused("missing.facts can't be read: No such file", self.path("missing.facts"))
-        self.refused("can't be read: Is a directory", self.folder)
-
-    def test_a_text_that_nllc_refuses(self):
-        wrong = self.write("wrong.facts", text(1, "region 'x", "region 'x"))
-        self.refused("nllc refuses the text: nllc: line 4: duplicate", wrong)
+    def test_texts(self):
+        for path, said in (
+                (self.write("none", b"none"), "isn't a facts text or a MIR text: .*`nll-mir 1` .*nllc.sh facts FILE.rs"),
+                (self.write("empty", b""), "isn't a facts text"), (self.write("bytes", bytes(range(256))), "isn't a facts text"),
+                (self.path("missing.facts"), "missing.facts can't be read: No such file"),
+                (self.room, "can't be read: Is a directory"),
+                (self.write("wrong.facts", text(1, "region 'x", "region 'x")), "nllc refuses the text: nllc: line 4: duplicate")):
+            with self.subTest(said=said):
+                self.refused(said, path)
 
     def test_no_nllc(self):
-        self.refused("there is no program .*missing, which the variable NLLC names",
-                     self.path("pick.facts"),
-                     nllc="missing")
-        with mock.patch.object(nllc, "ROOT", self.path("nowhere")), mock.patch.dict(os.environ,
-                                                                                    {"PATH": ""}):
+        self.refused("there is no program .*missing, which the variable NLLC names", self.path("pick.facts"), nllc="missing")
+        with mock.patch.object(nllc, "ROOT", self.path("nowhere")), mock.patch.dict(os.environ, {"PATH": ""}):
             self.refused("no nllc is found: .* by the variable NLLC", self.path("pick.facts"), nllc=None)
 
     def test_an_nllc_that_fails(self):
-        self.program("failing", "echo nllc: memory >&2; exit 3")
-        self.refused("ended with status 3: nllc: memory$", self.path("pick.facts"),
-                     nllc="failing",
-                     status=3)
-
-    def test_values_and_faults_that_disagree(self):
-        self.program("lying", f'[ "$1" = check ] && {{ echo ok; exit 0; }}\n'
-                              f'exec "{sys.executable}" "{REFERENCE}" "$@"')
-        self.refused("the faults of .* aren't those of", self.path("pick.facts"), nllc="lying",
-                     status=3)
-
-    def answering(self, values):
-        """An nllc that checks as it ought to, and whose values a shell command prints."""
-        self.program("answering", f'[ "$1" = check ] && exec "{sys.executable}" "{REFERENCE}" "$@"\n{values}')
-
-    def test_values_that_do_not_follow(self):
-        self.answering(f'"{sys.executable}" "{REFERENCE}" "$@" | sed "s/^\'best: .*/\'best: 1 2 3 4 6 7/"')
-        self.refused("the values of .*answering don't follow from the text: no constraints bring",
-                     self.path("pick.facts"), nllc="answering")
-
-    def test_a_report_of_another_text(self):
-        self.answering("""echo "'static: 0 end('static)\"""")
-        self.refused("isn't the report of this facts text", self.path("pick.facts"), nllc="answering")
+        """One that ends, one that finds no fault, and two whose values don't follow or are of another text."""
+        slow = f'"{sys.executable}" "{REFERENCE}" "$@"'
+        checking = f'[ "$1" = check ] && exec {slow}\n'
+        for body, said, status in (
+                ("echo nllc: memory >&2; exit 3", "ended with status 3: nllc: memory$", 3),
+                (f'[ "$1" = check ] && {{ echo ok; exit 0; }}\nexec {slow}', "the faults of .* aren't those of", 3),
+                (f"{checking}{slow} | sed \"s/^'best: .*/'best: 1 2 3 4 6 7/\"",
+                 "the values of .*answering don't follow from the text: no constraints bring", 2),
+                (f"{checking}echo \"'static: 0 end('static)\"", "isn't the report of this facts text", 2)):
+            with self.subTest(said=said):
+                self.program("answering", body)
+                self.refused(said, self.path("pick.facts"), nllc="answering", status=status)
 
     def test_sources_that_are_none(self):
         self.write("pick.rs", b"\xff")
@@ -193,15 +160,11 @@ class Commands(Folder):
         self.program("slow", f"touch {self.path('began')}; exec sleep 20")
         with mock.patch.dict(os.environ, {"NLLC": self.path("slow")}):
             run = subprocess.Popen([os.path.join(ROOT, "frontend", "run"), "page",
-                                    self.path("pick.facts"), "-o", self.folder],
+                                    self.path("pick.facts"), "-o", self.room],
                                    stdout=subprocess.PIPE, stderr=subprocess.PIPE, text=True)
         while not os.path.exists(self.path("began")):
             time.sleep(0.02)
         run.terminate()
         out, err = run.communicate(timeout=10)
         self.assertEqual((run.returncode, out, err), (130, "", "nllc.sh page: stopped; nothing half-written is left\n"))
-        self.assertNotIn("pick.html", os.listdir(self.folder))
-
-
-if __name__ == "__main__":
-    unittest.main()
+        self.assertNotIn("pick.html", os.listdir(self.room))

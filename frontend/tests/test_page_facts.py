@@ -48,24 +48,14 @@ class Facts(unittest.TestCase):
             with self.subTest(line=line), self.assertRaisesRegex(Refusal, "line 3.*nllc check"):
                 facts_of(3, line)
 
-    def test_a_universal_behind_a_region(self):
-        with self.assertRaisesRegex(Refusal, "line 4"):
-            facts_of(1, "region 'x", "universal 'a")
-
     def test_no_facts_text(self):
-        for data in [b"", b"fn main() {}\n", b"nll-facts 3\npoints 1\nend\n", b"\xff\xfe\n"]:
-            with self.subTest(data=data), self.assertRaisesRegex(Refusal,
-                                                                 "isn't a facts "
-                                                                 "text.*nllc.sh facts"):
+        none = "isn't a facts text.*nllc.sh facts"
+        for data, said in ((b"", none), (b"fn main() {}\n", none), (b"nll-facts 3\npoints 1\nend\n", none), (b"\xff\xfe\n", none),
+                           (text(1, "region 'x", "universal 'a"), "line 4"),
+                           (b"nll-facts 1\npoints 1\n", "stops before its `end` line"), (text(1) + b"return 0\n", "line 4"),
+                           (b"nll-facts 1\n# \xff\npoints 1\nend\n", "line 2: not UTF-8")):
+            with self.subTest(data=data), self.assertRaisesRegex(Refusal, said):
                 read_facts(data, "TEXT")
-
-    def test_texts_that_stop_or_go_on(self):
-        with self.assertRaisesRegex(Refusal, "stops before its `end` line"):
-            read_facts(b"nll-facts 1\npoints 1\n", "TEXT")
-        with self.assertRaisesRegex(Refusal, "line 4"):
-            read_facts(text(1) + b"return 0\n", "TEXT")
-        with self.assertRaisesRegex(Refusal, "line 2: not UTF-8"):
-            read_facts(b"nll-facts 1\n# \xff\npoints 1\nend\n", "TEXT")
 
 
 class Remarks(unittest.TestCase):
@@ -115,9 +105,7 @@ class Reports(unittest.TestCase):
                       self.report.replace("'x: 0", "'x: 0 end('b)"),
                       self.report.replace("'a: 0 1", "'a: 1"), self.report + "'z:\n",
                       self.report.replace("'x: 0", "'x: 0 0")]:
-            with self.subTest(wrong=wrong), self.assertRaisesRegex(Refusal,
-                                                                   "REPORT isn't the "
-                                                                   "report of this"):
+            with self.subTest(wrong=wrong), self.assertRaisesRegex(Refusal, "REPORT isn't the report of this"):
                 read_values(wrong, self.facts, "REPORT")
 
     def test_no_report(self):
@@ -127,7 +115,3 @@ class Reports(unittest.TestCase):
     def test_sample(self):
         _, values = solved(file_bytes(SAMPLES, "pick.facts"))
         self.assertEqual(values.elements(3), [1, 2, 3, 4, 6, 7, 8, 10])
-
-
-if __name__ == "__main__":
-    unittest.main()

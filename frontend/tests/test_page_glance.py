@@ -258,7 +258,3 @@ class Heads(unittest.TestCase):
         self.assertRegex(made, r'class="point" data-p="2" tabindex="-1">bb0/2<')
         self.assertRegex(made, r'class="number">bb0/2</tspan>')
         self.assertFalse(re.search(r"point [0-9]", made.split("<dialog")[0]))
-
-
-if __name__ == "__main__":
-    unittest.main()

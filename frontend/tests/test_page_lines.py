@@ -10,32 +10,19 @@ from nllc_tools.views.html.graph import drawing, layout, order
 from nllc_tools.views.html.graph.lines import rows, straight_lines, title
 
 
-def lines_of(points, *edges):
-    return straight_lines(facts_of(points, *(f"next {a} {b}" for a, b in edges)).successors)
-
-
 class Folding(unittest.TestCase):
-    def test_one_line(self):
-        self.assertEqual(lines_of(4, (0, 1), (1, 2), (2, 3)), [[0, 1, 2, 3]])
-
-    def test_points_without_edges(self):
-        self.assertEqual(lines_of(3), [[0], [1], [2]])
-
-    def test_a_branch_and_a_join(self):
-        self.assertEqual(lines_of(6, (0, 1), (1, 2), (1, 3), (2, 4), (3, 4), (4, 5)),
-                         [[0, 1], [2], [3], [4, 5]])
-
-    def test_a_loop_begins_a_line(self):
-        self.assertEqual(lines_of(4, (0, 1), (1, 2), (2, 1), (2, 3)), [[0], [1, 2], [3]])
-
-    def test_a_loop_to_the_first_point(self):
-        self.assertEqual(lines_of(3, (0, 1), (1, 2), (2, 0)), [[0, 1, 2]])
-
-    def test_circles_without_a_way_in(self):
-        self.assertEqual(lines_of(5, (1, 2), (2, 1), (3, 3)), [[0], [1, 2], [3], [4]])
-
-    def test_lines_that_run_backwards(self):
-        self.assertEqual(lines_of(4, (0, 3), (3, 2), (2, 1)), [[0, 3, 2, 1]])
+    def test_lines(self):
+        for said, points, edges, lines in (
+                ("one line", 4, [(0, 1), (1, 2), (2, 3)], [[0, 1, 2, 3]]),
+                ("points without edges", 3, [], [[0], [1], [2]]),
+                ("a branch and a join", 6, [(0, 1), (1, 2), (1, 3), (2, 4), (3, 4), (4, 5)], [[0, 1], [2], [3], [4, 5]]),
+                ("a loop begins a line", 4, [(0, 1), (1, 2), (2, 1), (2, 3)], [[0], [1, 2], [3]]),
+                ("a loop to the first point", 3, [(0, 1), (1, 2), (2, 0)], [[0, 1, 2]]),
+                ("circles without a way in", 5, [(1, 2), (2, 1), (3, 3)], [[0], [1, 2], [3], [4]]),
+                ("lines that run backwards", 4, [(0, 3), (3, 2), (2, 1)], [[0, 3, 2, 1]])):
+            with self.subTest(said=said):
+                facts = facts_of(points, *(f"next {a} {b}" for a, b in edges))
+                self.assertEqual(straight_lines(facts.successors), lines)
 
     def test_by_the_definition(self):
         """Neighbours in a line are each other's only ones, and others aren't."""
@@ -167,21 +154,12 @@ class Drawings(unittest.TestCase):
 
     def test_edges_to_code_that_unwinds_are_stubs(self):
         edges = [f"next {p} {p + 1}" for p in range(5)] + [f"next {p} 6" for p in range(4)]
-        graph = drawing.graph_of(facts_of(7, "# point 6: resume (bb9[0])", *edges, "return 5",
-                                          "return 6"))
-        self.assertEqual(graph.stubs, {0: [6], 1: [6], 2: [6], 3: [6]})
-        self.assertEqual((graph.lines, graph.edges), ([[0, 1, 2, 3, 4, 5], [6]], []))
-        self.assertEqual(graph.returning, [True, False])
-
-    def test_a_single_edge_to_such_code_is_drawn(self):
-        graph = drawing.graph_of(facts_of(3, "next 0 1", "next 0 2", "return 1"))
-        self.assertEqual((graph.stubs, graph.edges, graph.returning),
-                         ({}, [(0, 1), (0, 2)], [True, True, False]))
-
-    def test_a_function_that_never_returns(self):
-        graph = drawing.graph_of(facts_of(2, "next 0 1", "next 1 0"))
-        self.assertEqual((graph.stubs, graph.returning), ({}, [True]))
-
-
-if __name__ == "__main__":
-    unittest.main()
+        for said, points, lines, drawn in (
+                ("several edges", 7, ["# point 6: resume (bb9[0])", *edges, "return 5", "return 6"],
+                 ({0: [6], 1: [6], 2: [6], 3: [6]}, [[0, 1, 2, 3, 4, 5], [6]], [], [True, False])),
+                ("a single edge", 3, ["next 0 1", "next 0 2", "return 1"],
+                 ({}, [[0], [1], [2]], [(0, 1), (0, 2)], [True, True, False])),
+                ("a function that never returns", 2, ["next 0 1", "next 1 0"], ({}, [[0, 1]], [(0, 0)], [True]))):
+            with self.subTest(said=said):
+                graph = drawing.graph_of(facts_of(points, *lines))
+                self.assertEqual((graph.stubs, graph.lines, graph.edges, graph.returning), drawn)

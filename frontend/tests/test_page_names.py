@@ -32,7 +32,3 @@ class Names(unittest.TestCase):
                          "an unnamed lifetime of a::counter; region 2 of 4")
         self.assertEqual(region_text(facts, "'a of the function around this closure"), "'a of a::counter")
         self.assertEqual(region_text(facts, "the type of best"), "the type of best")
-
-
-if __name__ == "__main__":
-    unittest.main()

@@ -110,7 +110,3 @@ class Lines(unittest.TestCase):
         said = "".join(bare(told(content(facts, values, [fault], Source("x.rs", 3, ["x // out"])), fault)))
         self.assertEqual(said, "Data that lives for &#x27;a has to live for &#x27;static at line 3, x; nothing declares "
                                "that &#x27;a outlives &#x27;static.")
-
-
-if __name__ == "__main__":
-    unittest.main()

@@ -58,7 +58,3 @@ class RegionGraph(unittest.TestCase):
         many = facts_of(1, *(f"region 'r{n}" for n in range(count)),
                         *(f"constraint 'r{n} 'static 0" for n in range(count)))
         self.assertIn("too many for a picture", region_graph.region_graph(many))
-
-
-if __name__ == "__main__":
-    unittest.main()

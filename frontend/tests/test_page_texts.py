@@ -4,10 +4,10 @@ import io
 import os
 import re
 import unittest
-from contextlib import redirect_stderr, redirect_stdout
 from unittest import mock
 
-from page_support import EXAMPLES, ROOT, SAMPLES, Folder, file_bytes, reference, text
+from page_support import EXAMPLES, SAMPLES, Folder, file_bytes, reference, text
+from rooms import STATES
 
 from nllc_tools.commands.page import main
 from nllc_tools.texts.facts.values import read_values
@@ -17,23 +17,14 @@ from nllc_tools.views.html import index, index_rows
 from nllc_tools.views.html.index import write_index
 from schedule_support import printed, schedule
 
-SLOW = os.path.join(ROOT, "check", "reference", "reference_states.py")
-
 
 class Command(Folder):
-    def run_main(self, *words, world=SLOW):
-        out, err = io.StringIO(), io.StringIO()
-        with mock.patch.dict(os.environ, {"NLLC": self.path("nllc"), "WORLD_PROGRAM": world}), \
-                redirect_stdout(out), redirect_stderr(err):
-            try:
-                status = main([*words, "-o", self.path("pages")])
-            except SystemExit as ended:
-                status = ended.code
-        return status, out.getvalue().splitlines(), err.getvalue()
+    def run_main(self, *words, world=STATES):
+        status, out, err = self.called(main, [*words, "-o", self.path("pages")], NLLC="nllc", WORLD_PROGRAM=world)
+        return status, out.splitlines(), err
 
     def page(self, name):
-        with open(self.path("pages", name), encoding="utf-8") as file:
-            return file.read()
+        return self.read("pages", name)
 
 
 class Pages(Command):
@@ -47,10 +38,11 @@ class Pages(Command):
         self.assertIn("bb0/1", page)
         self.assertIn("The text’s problem from check/reference/reference_states.py", page)
 
-    def test_a_facts_text(self):
-        status, out, err = self.run_main(os.path.join(EXAMPLES, "chain.facts"))
-        self.assertEqual((status, err), (0, ""))
-        self.assertEqual(out[0], self.path("pages", "chain.html"))
+    def test_a_facts_text_and_a_struct_with_a_drop(self):
+        for name, page, said in (("chain.facts", "chain.html", "no fault"), ("drop.mir", "drop.mir.html", "drop _1 -&gt; bb1")):
+            status, out, err = self.run_main(os.path.join(EXAMPLES, name))
+            self.assertEqual((status, out[0], err), (0, self.path("pages", page), ""))
+            self.assertIn(said, self.page(page))
 
     def test_both_of_one_name(self):
         _, out, _ = self.run_main(*(os.path.join(EXAMPLES, f"running.{kind}") for kind in ("facts", "mir")))
@@ -63,11 +55,6 @@ class Pages(Command):
                 status, out, err = self.run_main("-")
             self.assertEqual((status, out[0], err), (0, self.path("pages", "stdin.html"), ""))
             self.assertIn(shown, self.page("stdin.html"))
-
-    def test_a_struct_with_a_drop(self):
-        status, _, err = self.run_main(os.path.join(EXAMPLES, "drop.mir"))
-        self.assertEqual((status, err), (0, ""))
-        self.assertIn("drop _1 -&gt; bb1", self.page("drop.mir.html"))
 
     def test_refusals(self):
         for name, data, said in (
@@ -144,7 +131,7 @@ class Index(Command):
         row = index_rows.Row(nasty, nasty, 1, 2, 3, 0, 1, "faulty", nasty, nasty, [index_rows.Told(3, nasty)], True)
         self.write("a b%.html", index_rows.row_mark(row).encode())
         self.assertEqual(index_rows.row_in(self.path("a b%.html")), row)
-        made = "".join(index.index_parts(index_rows.rows_in(self.folder))[part] for part in ("title", "rows", "verdict"))
+        made = "".join(index.index_parts(index_rows.rows_in(self.room))[part] for part in ("title", "rows", "verdict"))
         self.assertNotIn("<script", made)
         self.assertIn('href="./a%20b%25.html"', made)
         self.assertIn("1 loan error<", made)
@@ -152,15 +139,11 @@ class Index(Command):
     def test_pages_that_are_named_alone(self):
         for name in ("old.html", "new.html"):
             self.write(name, index_rows.row_mark(index_rows.Row(name, "x", 1, 1, 1, 0, None)).encode())
-        write_index(self.folder, ["new.html"])
+        write_index(self.room, ["new.html"])
         with open(self.path("index.html"), encoding="utf-8") as file:
             self.assertEqual(re.findall(r'href="\./([^"]*)"', file.read()), ["new.html"])
 
     def test_other_files(self):
         self.write("other.html", b"<p>no page</p>")
         self.write("index.html", index_rows.row_mark(index_rows.Row("x", "x", 1, 1, 1, 0, None)).encode())
-        self.assertEqual(index_rows.rows_in(self.folder), [])
-
-
-if __name__ == "__main__":
-    unittest.main()
+        self.assertEqual(index_rows.rows_in(self.room), [])

@@ -129,7 +129,3 @@ class Windows(unittest.TestCase):
 
     def test_no_function_above(self):
         self.assertEqual(source.window(["a", "b", "c"], [2]), (2, 2))
-
-
-if __name__ == "__main__":
-    unittest.main()

@@ -2,7 +2,6 @@
 
 import os
 import subprocess
-import unittest
 
 import facts_support as support
 from test_facts_command import RUST, Room, needs_known
@@ -146,7 +145,3 @@ class Workspace(Project):
         done = self.run_in("ws", "cargo", "nllc", "--workspace", PATH=path)
         self.assertEqual((done.returncode, done.stderr.splitlines()[-1]), (
             2, "cargo nllc: error: unrecognized arguments: --workspace; options of cargo check go after --"))
-
-
-if __name__ == "__main__":
-    unittest.main()

@@ -1,64 +1,29 @@
 """The command of pages of schedules: the page that it writes, and each refusal, after which nothing is left."""
 
-import io
-import os
 import sys
-import tempfile
-import unittest
-from contextlib import redirect_stderr, redirect_stdout
-from unittest import mock
 
 from page_support import EXAMPLES, file_bytes, text
-from schedule_support import REFERENCE, example, schedule
+from rooms import STATES, Room
+from schedule_support import example, schedule
 
 from nllc_tools.commands.schedule import main, named_owners
 
 
-class Commands(unittest.TestCase):
+class Commands(Room):
     """Each test has a folder of its own; `world` is a script there that runs the slow model."""
 
     def setUp(self):
-        folder = tempfile.TemporaryDirectory()
-        self.addCleanup(folder.cleanup)
-        self.folder = folder.name
-        self.program("world", f'exec "{sys.executable}" "{REFERENCE}" "$@"')
+        super().setUp()
+        self.slow("world", STATES)
         facts, events = example("each_other")
         self.facts = self.write("two.facts", facts)
         self.schedule = self.write("two.schedule", events)
 
-    def path(self, name):
-        return os.path.join(self.folder, name)
-
-    def write(self, name, data):
-        with open(self.path(name), "wb") as file:
-            file.write(data)
-        return self.path(name)
-
-    def program(self, name, body):
-        self.write(name, f"#!/bin/sh\n{body}\n".encode())
-        os.chmod(self.path(name), 0o755)
-
     def run_main(self, *words, world="world"):
-        out, err = io.StringIO(), io.StringIO()
-        with mock.patch.dict(os.environ, {"WORLD_PROGRAM": self.path(world)}), \
-                redirect_stdout(out), redirect_stderr(err):
-            try:
-                status = main(list(words))
-            except SystemExit as ended:
-                status = ended.code
-        return status, out.getvalue(), err.getvalue()
-
-    def refused(self, pattern, *words, status=2, **more):
-        before = sorted(os.listdir(self.folder))
-        got, out, err = self.run_main(*words, **more)
-        self.assertEqual((got, out), (status, ""))
-        self.assertRegex(err, pattern)
-        self.assertEqual(err.count("\n"), 1, err)
-        self.assertEqual(sorted(os.listdir(self.folder)), before)
+        return self.called(main, list(words), WORLD_PROGRAM=world)
 
     def page(self, name="two.schedule.html"):
-        with open(self.path(name), encoding="utf-8") as file:
-            return file.read()
+        return self.read(name)
 
     # What is written
 
@@ -123,7 +88,7 @@ class Commands(unittest.TestCase):
         self.program("wrong", "echo nonsense")
         self.refused("printed no states of a world", self.facts, self.schedule, world="wrong", status=3)
         self.refused("can't be run", self.facts, self.schedule, world="none", status=3)
-        self.program("other", f'"{sys.executable}" "{REFERENCE}" "$1" "$2" {self.facts} "$4"')
+        self.program("other", f'"{sys.executable}" "{STATES}" "$1" "$2" {self.facts} "$4"')
         other = self.write("other.facts", example("each_other")[0].replace(b"base '1 0", b"base '1 1"))
         self.refused("don't follow from .*other.facts: nothing requires element", other, self.schedule,
                      world="other", status=3)
@@ -135,7 +100,3 @@ class Commands(unittest.TestCase):
         self.refused("has 71 regions", many, self.schedule)
         long = self.write("long.schedule", schedule(*["load 0"] * 2001))
         self.refused("has 2,001 events", self.facts, long)
-
-
-if __name__ == "__main__":
-    unittest.main()

@@ -180,7 +180,3 @@ class Programs(unittest.TestCase):
                         self.assertEqual(answers(told), replay.splitlines())
                         slow = printed(facts, b"".join(lines[:count]), owners)
                         self.assertEqual(answers(slow), replay.splitlines())
-
-
-if __name__ == "__main__":
-    unittest.main()

@@ -2,9 +2,8 @@
 
 import re
 import unittest
-from html.parser import HTMLParser
 
-from page_support import text
+from page_support import Markup, text
 from schedule_support import SCHEDULES, content_of, example_content, schedule
 
 from nllc_tools.base.sentences import plain
@@ -74,7 +73,7 @@ class Sentences(unittest.TestCase):
 
     def test_what_the_balance_counts(self):
         content = content_of(ONE_WAY, schedule(*LOADED[:2], "push 0 1"), 2)
-        counted = [[plain(event_words.way_words(content.facts, *way)) for way in under_way(state)]
+        counted = [[plain(event_words.way_words(content.facts, way)) for way in under_way(state)]
                    for state in content.run.states]
         self.assertEqual(counted, [
             ["the load of owner 0", "the load of owner 1"],
@@ -160,42 +159,16 @@ class Waits(unittest.TestCase):
         self.assertEqual(wait_part(content), '<p class="none">17 owners, too many for a picture.</p>')
 
 
-class Parser(HTMLParser):
-    """Looks whether tags are closed in order, and gathers ids and links."""
-
-    VOID = {"meta", "link", "input", "path", "br"}
-
-    def __init__(self):
-        super().__init__()
-        self.open = []
-        self.ids = []
-        self.links = []
-
-    def handle_starttag(self, tag, attrs):
-        values = dict(attrs)
-        self.ids += [values["id"]] if "id" in values else []
-        self.links += [values["href"]] if "href" in values else []
-        if tag not in self.VOID:
-            self.open.append(tag)
-
-    def handle_startendtag(self, tag, attrs):
-        self.ids += [value for name, value in attrs if name == "id"]
-
-    def handle_endtag(self, tag):
-        assert self.open and self.open[-1] == tag, (tag, self.open)
-        self.open.pop()
-
-
 class Pages(unittest.TestCase):
     def test_well_formed(self):
         for name in SCHEDULES:
-            parser = Parser()
-            parser.feed(page(example_content(name)))
+            made = Markup(page(example_content(name)))
             with self.subTest(example=name):
-                self.assertEqual(parser.open, [])
-                self.assertEqual(len(parser.ids), len(set(parser.ids)))
-                inside = [link[1:] for link in parser.links if link.startswith("#") and "event=" not in link]
-                self.assertLessEqual(set(inside), set(parser.ids))
+                self.assertEqual((made.open, made.wrong), ([], []))
+                ids = made.values("id")
+                self.assertEqual(len(ids), len(set(ids)))
+                inside = [link[1:] for link in made.values("href") if link.startswith("#") and "event=" not in link]
+                self.assertLessEqual(set(inside), set(ids))
 
     def test_why_an_event_is_not_possible_is_said_at_the_event(self):
         rows = event_list(example_content("each_other")).split("<li>")
@@ -239,7 +212,3 @@ class Pages(unittest.TestCase):
         self.assertIn("No owner reads a region of another one.", shown)
         self.assertIn("There is none.", shown)
         self.assertIn("Before the first event", shown)
-
-
-if __name__ == "__main__":
-    unittest.main()

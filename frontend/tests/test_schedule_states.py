@@ -93,7 +93,3 @@ class Spans(unittest.TestCase):
     def test_attributes(self):
         self.assertEqual(Span(3).attributes(), 'data-from="3"')
         self.assertEqual(Span(3, 5).attributes(), 'data-from="3" data-to="5"')
-
-
-if __name__ == "__main__":
-    unittest.main()

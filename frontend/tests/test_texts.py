@@ -2,19 +2,16 @@
 
 import os
 import re
-import shutil
 import subprocess
 import sys
-import tempfile
-import unittest
 
-ROOT = os.path.dirname(os.path.dirname(os.path.dirname(os.path.abspath(__file__))))
-sys.path.insert(0, os.path.join(ROOT, "frontend"))
+from paths import FRONTEND
+from rooms import REFERENCE, Room
 
-from nllc_tools.commands.explain import refused  # noqa: E402 (they stand in frontend/)
-from nllc_tools.commands.several import advice, read_words  # noqa: E402
+from nllc_tools.commands.explain import refused
+from nllc_tools.commands.several import advice, read_words
 
-RUN = [sys.executable, os.path.join(ROOT, "frontend", "run")]
+RUN = [sys.executable, os.path.join(FRONTEND, "run")]
 HEAD = "nll-facts 1\npoints 3\n"
 BODY = "nll-mir 1\nlet _0: int\nblocks 2\nblock bb0\n"
 TYPES = "nll-mir 1\nregion 'r\nstruct Pair <'a +, T +> (&'a T, int)\nlet _0: int\nlet _1: Pair<'r, int>\n"
@@ -24,23 +21,15 @@ WIDE = "(" + ", ".join(["int"] * 70) + ")"  # 71 nodes
 TWICE = f"nll-mir 1\nregion 'r\nstruct D <T +> (({', '.join(['T'] * 70)}))\nlet _0: D<{WIDE}>\n"   # a field of 1 + 70 * 71
 
 
-class Texts(unittest.TestCase):
+class Texts(Room):
     """Each test has a folder of its own; `nllc` is a script there that runs the reference, and refuses strange words."""
 
     def setUp(self):
-        self.room = tempfile.mkdtemp()
-        self.addCleanup(shutil.rmtree, self.room)
-        program = self.write("nllc", '#!/bin/sh\nfor word; do\n    case $word in --owners* | --d* | --j* | --m* | --s*) '
-                             'echo "usage: nllc" >&2; exit 2 ;; esac\ndone\n[ "$#" -gt 1 ] || { echo "usage: nllc" >&2; exit 2; }\n'
-                             f'exec "{sys.executable}" "{ROOT}/check/reference/reference.py" "$@"\n')
-        os.chmod(program, 0o755)
+        super().setUp()
+        program = self.program("nllc", 'for word; do\n    case $word in --owners* | --d* | --j* | --m* | --s*) '
+                               'echo "usage: nllc" >&2; exit 2 ;; esac\ndone\n[ "$#" -gt 1 ] || { echo "usage: nllc" >&2; exit 2; }\n'
+                               f'exec "{sys.executable}" "{REFERENCE}" "$@"')
         self.environment = {**os.environ, "NLLC": program}
-
-    def write(self, name, text):
-        path = os.path.join(self.room, name)
-        with open(path, "w", encoding="utf-8") as file:
-            file.write(text)
-        return path
 
     def run_words(self, *words, **more):
         return subprocess.run([*RUN, *words], capture_output=True, check=False, encoding="utf-8", cwd=self.room,
@@ -102,6 +91,7 @@ class Explain(Texts):
         (HEAD + "region 'x\nregion 'x\n", "4:8: duplicate: `'x` is declared already, in line 3\n    region 'x"),
         (HEAD + "region 'static\n", "3:8: duplicate: `'static` is declared already, from the start\n    region 'static"),
         (HEAD + "  base 'y 0\n", "3:8: unknown: `'y` is no region that an earlier line declares\n    base 'y 0"),
+        (HEAD + "outlives 'static 'b\n", "3:18: unknown: `'b` is no region that an earlier line declares\n    outlives 'static 'b"),
         (HEAD + "base 'x\n", "3:1: syntax: `base` lines are written base 'x P\n    base 'x"),
         (HEAD + "end;\n", "3:4: syntax: `;` is part of no token\n    end;"),
         (HEAD + "points 3\n", "3:1: syntax: `points` is out of order: one `points` line, then `universal`, `outlives` and "
@@ -188,17 +178,13 @@ class Explain(Texts):
         self.assertIn(":3:9: type size: `&` begins a type of 4,097 nodes", self.run_words("explain", path).stdout)
 
     def test_constraints_of_no_line(self):
-        program = self.write("full", "#!/bin/sh\necho 'nllc: limit constraints' >&2\nexit 2\n")
-        os.chmod(program, 0o755)
-        self.environment["NLLC"] = program
+        self.environment["NLLC"] = self.program("full", "echo 'nllc: limit constraints' >&2\nexit 2")
         done = self.run_words("explain", self.write("body", BODY))
         self.assertEqual((done.returncode, done.stdout), (2, f"{self.room}/body: limit constraints: all lines together ask for more "
                                                           "constraints than the 1,048,576 that there may be\n"))
 
     def test_bytes(self):
-        path = os.path.join(self.room, "bytes")
-        with open(path, "wb") as file:
-            file.write(HEAD.encode() + b"next \xff 1\n")
+        path = self.write("bytes", HEAD.encode() + b"next \xff 1\n")
         self.assertEqual(self.run_words("explain", path).stdout,
                          f"{path}:3:6: not utf-8: the byte 0xff isn't UTF-8 there\n    next � 1\n")
 
@@ -216,7 +202,3 @@ class Explain(Texts):
         done = self.run_words("explain", self.write("f.rs", "fn f() {}\n"))
         self.assertEqual((done.returncode, done.stdout), (2, ""))
         self.assertIn("f.rs is a Rust file: nllc.sh rust ", done.stderr)
-
-
-if __name__ == "__main__":
-    unittest.main()

@@ -1,4 +1,4 @@
-"""What pyproject.toml names has types throughout, and mypy finds nothing in it; pyflakes finds nothing in the package."""
+"""The package has types throughout, and neither mypy nor pyflakes finds anything in it."""
 
 import os
 import shutil
@@ -6,7 +6,8 @@ import subprocess
 import tempfile
 import unittest
 
-FRONTEND = os.path.dirname(os.path.dirname(os.path.abspath(__file__)))
+from paths import FRONTEND
+
 SET_LATER = "nllc_tools/texts/mir/functions.py"    # its `begin` gives the name a value, which is declared without one
 
 
@@ -42,7 +43,3 @@ class Names(unittest.TestCase):
         _, said = said_by("pyflakes3", "nllc_tools", "nllc_tools/rustc/rustc-wrapper", "run", "cargo-nllc")
         self.assertEqual([line for line in said.splitlines()
                           if not line.startswith(SET_LATER) or "undefined name 'definitions'" not in line], [])
-
-
-if __name__ == "__main__":
-    unittest.main()

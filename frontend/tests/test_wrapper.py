@@ -4,18 +4,18 @@ import glob
 import os
 import shutil
 import subprocess
-import tempfile
-import unittest
 
-ROOT = os.path.dirname(os.path.dirname(os.path.dirname(os.path.abspath(__file__))))
-PROGRAM = """#!/bin/sh
+from paths import ROOT
+from rooms import Room
+
+PROGRAM = """\
 [ "$1" = check ] || [ "$1" = values ] || [ "$1" = replay ] || [ "$1" = --help ] || { echo usage: nllc >&2; exit 2; }
 echo "own words: $*"
 for file; do :; done
 [ "$file" != /dev/stdin ] || cat
 """
 # Prints its words and its cut file; the last word is its status.
-OF_STATUS = """#!/bin/sh
+OF_STATUS = """\
 for file; do case $file in --cut=*) cut=$(cat "${file#--cut=}") ;; esac; done
 echo "$* has $cut"
 exit "$file"
@@ -23,28 +23,19 @@ exit "$file"
 OWN = ("rust FILE.rs", "facts FILE.rs", "page FILE", "schedule FILE", "explain FILE", "version", "--prove")
 
 
-class Wrapper(unittest.TestCase):
+class Wrapper(Room):
     """The script in a folder of its own, beside which a test puts programs."""
 
     def setUp(self):
-        self.room = tempfile.mkdtemp()
-        self.addCleanup(shutil.rmtree, self.room)
+        super().setUp()
         for name in ("crates/nllc/out", "crates/nllc/src", "crates/nllc/specs", "crates/nllc/proofs", "out"):
             os.makedirs(os.path.join(self.room, name))
         shutil.copy(os.path.join(ROOT, "nllc.sh"), self.room)
         os.symlink(os.path.join(ROOT, "frontend"), os.path.join(self.room, "frontend"))
         self.write("crates.txt", "")
 
-    def path(self, *names):
-        return os.path.join(self.room, *names)
-
-    def write(self, name, text):
-        with open(self.path(name), "w", encoding="utf-8") as file:
-            file.write(text)
-        return self.path(name)
-
-    def program(self, name, text=PROGRAM):
-        os.chmod(self.write(name, text), 0o755)
+    def program(self, name, body=PROGRAM):
+        return super().program(name, body)
 
     def run_script(self, *words, script="nllc.sh", **more):
         environment = {name: value for name, value in os.environ.items() if name != "NLLC"}
@@ -117,7 +108,7 @@ class Words(Wrapper):
 
     def test_wrong_values(self):
         """What the program certainly refuses comes back with a line that says what is wrong."""
-        self.program("crates/nllc/out/nllc", "#!/bin/sh\necho usage: nllc >&2\nexit 2\n")
+        self.program("crates/nllc/out/nllc", "echo usage: nllc >&2\nexit 2")
         for words, said in ((("check", "F", "--owners", "65"), "--owners takes a number from 1 to 64, not 65"),
                             (("values", "F", "--owners=0"), "--owners takes a number from 1 to 64, not 0"),
                             (("check", "F", "--owners"), "--owners needs a value"),
@@ -169,7 +160,7 @@ class Words(Wrapper):
         self.assertTrue(self.run_script("page", "--help", script="nllc").stdout.startswith("usage: nllc page "))
 
     def test_the_program_of_the_variable(self):
-        self.program("other", "#!/bin/sh\necho other: $*\n")
+        self.program("other", "echo other: $*")
         done = self.run_script("check", "F", env=os.environ | {"NLLC": self.path("other")})
         self.assertEqual((done.stdout, done.stderr), ("other: check F\n", ""))
         done = self.run_script("check", "F", env=os.environ | {"NLLC": self.path("nllc.sh")})
@@ -225,7 +216,3 @@ class Current(Wrapper):
         earlier = os.stat(self.path("out/told")).st_mtime - 3700
         os.utime(self.path("out/told"), (earlier, earlier))
         self.assertEqual(self.run_script("check", "F").stderr, line)
-
-
-if __name__ == "__main__":
-    unittest.main()

@@ -46,9 +46,9 @@ def joined(pieces: Sequence[Iterable[str]], last: str = " and ", between: str = 
     return parts
 
 
-def of_macro(used: str, path: str) -> list[str]:
-    """Where a macro of another file is used, in whose lines something is told."""
-    return [f"in this macro invocation: {used}; the lines named here are of {path}"]
+def some(names: Sequence[str], most: int) -> str:
+    """The first of the names, and how many more there are."""
+    return ", ".join(names[:most]) + (f" and {len(names) - most} more" if len(names) > most else "")
 
 
 def plural(count: int, noun: str) -> str:

@@ -9,7 +9,7 @@ import os
 import signal
 import sys
 from io import TextIOWrapper
-from typing import Callable
+from typing import Callable, Sequence
 
 from nllc_tools.base.command_line import called, current
 from nllc_tools.base.refusal import Refusal
@@ -30,6 +30,14 @@ def plain(error: UnicodeError) -> tuple[str, int]:
 
 
 codecs.register_error("plain", plain)
+
+
+Main = Callable[[Sequence[str]], int]
+
+
+def command(word: str) -> Callable[[Main], Main]:
+    """Has what one of the command's words does with those behind it end as `guarded` says."""
+    return lambda work: lambda words: guarded(word, lambda: work(words))
 
 
 def guarded(word: str, work: Callable[[], int]) -> int:

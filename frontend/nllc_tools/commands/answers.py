@@ -17,7 +17,7 @@ from nllc_tools.texts.facts import widening
 from nllc_tools.texts.facts.conversion import convert
 from nllc_tools.texts.facts.writer import facts_text
 from nllc_tools.texts.mir.functions import Made
-from nllc_tools.views.terminal import explaining, second_answer
+from nllc_tools.views.terminal import explaining
 from nllc_tools.views.terminal.answers import Answer
 
 
@@ -88,7 +88,7 @@ def answered(facts_path: str, text: bytes, how: How = How()) -> Summary:
     if how.everywhere:
         content = replace(content, everywhere=content_of(facts_path, widening.at_all_points(text)))
     said = summary_of(content)
-    said.lines = [*(explaining.lines(content) if how.in_full else ()), *second_answer.lines(content),
+    said.lines = [*(explaining.lines(content) if how.in_full else ()), *explaining.second_answer(content),
                   *(explaining.needs(content) if how.in_full else ())]
     if how.has_page or said.is_told():
         said.page = facts_path.removesuffix(".facts") + ".html"

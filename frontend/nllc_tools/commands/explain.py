@@ -10,7 +10,7 @@ from nllc_tools.base import nllc
 from nllc_tools.base.command_line import called
 from nllc_tools.base.refusal import Refusal
 from nllc_tools.base.sentences import visible
-from nllc_tools.base.streams import guarded
+from nllc_tools.base.streams import command
 from nllc_tools.commands.several import is_rust
 from nllc_tools.commands.texts import parser_of_texts, read
 from nllc_tools.texts.refused.culprit import culprit
@@ -25,9 +25,10 @@ OF_NO_LINE = {"nllc: limit constraints": "limit constraints: all lines together 
 MOST_SHOWN = 200    # letters of a line
 
 
+@command("explain")
 def main(words: Sequence[str]) -> int:
     """Runs the command on these words; its status."""
-    return guarded("explain", lambda: max(map(explain, parser_of_texts("explain", ABOUT).parse_args(words).texts)))
+    return max(map(explain, parser_of_texts("explain", ABOUT).parse_args(words).texts))
 
 
 def explain(path: str) -> int:

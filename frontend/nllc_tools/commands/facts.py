@@ -6,9 +6,9 @@ from nllc_tools.base.files import write_whole
 from nllc_tools.base.refusal import Refusal
 from nllc_tools.base.rooms import guarded_room
 from nllc_tools.base.sentences import plural
-from nllc_tools.base.streams import guarded
+from nllc_tools.base.streams import command
 from nllc_tools.base.workers import side_by_side
-from nllc_tools.commands.inputs import Asked, asked_for_texts, check, make_ready, refuse_nothing, show, tell_unanswered
+from nllc_tools.commands.inputs import asked_for_texts, check, make_ready, refuse_nothing, show, tell_unanswered
 from nllc_tools.rustc.functions import Function
 from nllc_tools.texts.facts.conversion import convert
 from nllc_tools.texts.facts.writer import facts_text
@@ -19,12 +19,10 @@ rustc 1.95 or later (its stable one will do). OPTIONS are those of rustc, or of 
 refused, all or in part; 3: failed."""
 
 
+@command("facts")
 def main(words: Sequence[str]) -> int:
     """Does what the words say; the status is 0, 2 for what is refused, 3 for what failed."""
-    return guarded("facts", lambda: write_texts(asked_for_texts("facts", ABOUT, words)))
-
-
-def write_texts(asked: Asked) -> int:
+    asked = asked_for_texts("facts", ABOUT, words)
     with guarded_room("nll-facts.") as room:
         found = check(asked, room, asked.folder())
         refuse_nothing(asked.path, found)

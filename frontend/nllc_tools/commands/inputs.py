@@ -59,18 +59,12 @@ def add_words(parser: Parser, use_of_folder: str, is_of_cargo: bool = False) -> 
                         help="only this package of a project; may be given several times")
 
 
-def split_words(words: Sequence[str]) -> tuple[Sequence[str], list[str]]:
-    """The words before `--`, and those behind it."""
-    at = words.index("--") if "--" in words else len(words)
-    return words[:at], [*words[at + 1:]]
-
-
 def read_words(parser: Parser, words: Sequence[str]) -> argparse.Namespace:
     """The words; what comes on standard input is written to a file in the folder of texts and pages, so that places in it
     mean something."""
-    own, options = split_words(words)
-    asked = parser.parse_args(own)
-    asked.options = options
+    at = words.index("--") if "--" in words else len(words)
+    asked = parser.parse_args(words[:at])
+    asked.options = [*words[at + 1:]]
     if asked.path == "-":
         folder = asked.out or os.path.join(FOLDER, "stdin")
         make_ready(folder)

@@ -7,7 +7,7 @@ from typing import Sequence
 from nllc_tools.base.command_line import called
 from nllc_tools.base.refusal import Refusal
 from nllc_tools.base.sentences import visible
-from nllc_tools.base.streams import guarded, tell
+from nllc_tools.base.streams import command, tell
 from nllc_tools.commands.texts import content_of, parser_of_texts, read
 from nllc_tools.views.json.answer import answer
 
@@ -20,8 +20,9 @@ status 0: no text has a fault; 1: one has; 2: the arguments, a file or a text wa
 output can't be written. The status is the highest of all texts"""
 
 
+@command("json")
 def main(words: Sequence[str]) -> int:
-    return guarded("json", lambda: max(map(answered, parser_of_texts("json", ABOUT, STATUSES).parse_args(words).texts)))
+    return max(map(answered, parser_of_texts("json", ABOUT, STATUSES).parse_args(words).texts))
 
 
 def answered(path: str) -> int:

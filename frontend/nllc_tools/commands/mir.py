@@ -9,7 +9,7 @@ from nllc_tools.base.command_line import called
 from nllc_tools.base.files import write_whole
 from nllc_tools.base.rooms import guarded_room
 from nllc_tools.base.sentences import plural
-from nllc_tools.base.streams import guarded
+from nllc_tools.base.streams import command
 from nllc_tools.commands.inputs import Asked, asked_for_texts, check, make_ready, refuse_nothing, tell_unanswered
 from nllc_tools.rustc.cargo import check_project, project_of
 from nllc_tools.rustc.dumps import Dump, find_dumps
@@ -24,12 +24,10 @@ function without a MIR text gets a line with the reason on standard error. Needs
 was, or refused, all or in part; 3: failed."""
 
 
+@command("mir")
 def main(words: Sequence[str]) -> int:
     """Does what the words say; the status is 0, 2 where no function has a text, 3 for what failed."""
-    return guarded("mir", lambda: run(asked_for_texts("mir", ABOUT, words)))
-
-
-def run(asked: Asked) -> int:
+    asked = asked_for_texts("mir", ABOUT, words)
     ask_for_types()
     with guarded_room("nll-mir.") as room:
         found = check(asked, room, asked.folder())

@@ -1,6 +1,5 @@
 """The command `nllc.sh page`: pages of facts texts and MIR texts, and an index of them."""
 
-import argparse
 import os
 from dataclasses import replace
 from itertools import count
@@ -8,7 +7,7 @@ from typing import Iterator, Sequence
 
 from nllc_tools.base import files
 from nllc_tools.base.refusal import Refusal
-from nllc_tools.base.streams import guarded
+from nllc_tools.base.streams import command
 from nllc_tools.commands.inputs import open_page
 from nllc_tools.commands.texts import content_of, parser_of_texts, read
 from nllc_tools.views.html.index import write_index
@@ -29,20 +28,14 @@ status 0: the pages were written; 2: the arguments, a file or a text was refused
 couldn't be written; each with one line on standard error"""
 
 
+@command("page")
 def main(words: Sequence[str]) -> int:
     """Runs the command on these words; its status."""
-    return guarded("page", lambda: run(words_of(words)))
-
-
-def words_of(words: Sequence[str]) -> argparse.Namespace:
     parser = parser_of_texts("page", ABOUT, STATUSES)
     parser.add_argument("-o", dest="folder", metavar="FOLDER", default=FOLDER,
                         help=f"where the pages go; without it {FOLDER}")
     parser.add_argument("--open", action="store_true", help="open the page in the browser")
-    return parser.parse_args(words)
-
-
-def run(asked: argparse.Namespace) -> int:
+    asked = parser.parse_args(words)
     files.make_folder(asked.folder, "name another by -o FOLDER")
     paths = []
     for path, name in zip(asked.texts, page_names(asked.texts)):

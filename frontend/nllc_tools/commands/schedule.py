@@ -8,7 +8,7 @@ from nllc_tools.base import world_program
 from nllc_tools.base.command_line import Parser
 from nllc_tools.base.files import read_bytes, same_file, write
 from nllc_tools.base.refusal import Refusal
-from nllc_tools.base.streams import guarded
+from nllc_tools.base.streams import command
 from nllc_tools.commands.inputs import open_page
 from nllc_tools.model.facts import Facts
 from nllc_tools.texts.facts.reader import read_facts
@@ -36,11 +36,6 @@ the page couldn't be written; each with one line on standard error, and no page 
 EVENT = rb"[ \t\r]*(?:load|take|owe|clear|push|leave)[ \t\r]+([0-9]{1,9})(?:[ \t\r]+([0-9]{1,9}))?[ \t\r]*"
 
 
-def main(words: Sequence[str]) -> int:
-    """Runs the program on these words; its status."""
-    return guarded("schedule", lambda: run(words_of(words)))
-
-
 def number_of_owners(word: str) -> int:
     if not word.isdecimal() or not 1 <= int(word) <= MOST_OWNERS:
         raise argparse.ArgumentTypeError(f"a number from 1 to {MOST_OWNERS}, not {word}")
@@ -63,7 +58,10 @@ def words_of(words: Sequence[str]) -> argparse.Namespace:
     return parser.parse_args(words)
 
 
-def run(asked: argparse.Namespace) -> int:
+@command("schedule")
+def main(words: Sequence[str]) -> int:
+    """Runs the program on these words; its status."""
+    asked = words_of(words)
     out = asked.out or asked.schedule + ".html"
     for path in (asked.facts, asked.schedule, asked.cut):
         if path and same_file(path, out):

@@ -9,7 +9,6 @@ from nllc_tools.base import files, world_program
 from nllc_tools.base.command_line import Parser, called
 from nllc_tools.base.refusal import Refusal
 from nllc_tools.judge import content
-from nllc_tools.judge.content import Content
 from nllc_tools.model.facts import Facts
 from nllc_tools.texts import source
 from nllc_tools.texts.facts.reader import is_facts_text
@@ -36,7 +35,7 @@ def read(path: str) -> Text:
     return Text("stdin", sys.stdin.buffer.read()) if path == "-" else Text(path, files.read_bytes(path))
 
 
-def content_of(path: str, text: bytes, most: float = content.MOST_POINTS) -> Content:
+def content_of(path: str, text: bytes, most: float = content.MOST_POINTS) -> content.Content:
     if is_mir_text(text):
         return content_of_mir(path, text, most)
     if path.endswith(".rs") and not is_facts_text(text):
@@ -44,7 +43,7 @@ def content_of(path: str, text: bytes, most: float = content.MOST_POINTS) -> Con
     return content.content_of(path, text, most)
 
 
-def content_of_mir(path: str, text: bytes, most: float) -> Content:
+def content_of_mir(path: str, text: bytes, most: float) -> content.Content:
     """The content of a MIR text's page: its source is the text itself."""
     report = content.report_of(path, text)
     facts, problem = problem_of(path, text)
@@ -52,7 +51,7 @@ def content_of_mir(path: str, text: bytes, most: float) -> Content:
     values, found = content.judged(path, facts, report, most)
     lines = text.decode("utf-8").removesuffix("\n").split("\n")
     shown = Source(path, 1, lines) if len(text) <= source.MOST_BYTES else None
-    return Content(facts, values, content.explained(facts, values, found, report.program), path, shown, report.program,
+    return content.Content(facts, values, content.explained(facts, values, found, report.program), path, shown, report.program,
                    report.standing, problem=problem)
 
 

@@ -13,10 +13,9 @@ from nllc_tools.model.facts import Facts
 from nllc_tools.model.faults import Pair
 from nllc_tools.model.said import Beside
 from nllc_tools.model.values import Values
-from nllc_tools.texts import source
 from nllc_tools.texts.facts.reader import is_facts_text, read_facts
 from nllc_tools.texts.facts.values import read_values
-from nllc_tools.texts.source import Source
+from nllc_tools.texts.source import Source, source_of
 
 MOST_POINTS = 50_000
 
@@ -57,9 +56,8 @@ def content_of(path: str, text: bytes, most: float = MOST_POINTS, report: Option
     values, found = judged(path, facts, report, most)
     needs = faults.needs(facts, found)
     wrong = faults.distinct(facts, [pair for pair in found if pair not in needs])
-    source_path = source.find(facts, path)
     return Content(facts, values, explained(facts, values, wrong, report.program), path,
-                   source.read(source_path, facts) if source_path else None, report.program, report.standing,
+                   source_of(facts, path), report.program, report.standing,
                    loan_faults(facts, values), needs, facts.remarks.way)
 
 

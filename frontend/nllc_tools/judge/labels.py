@@ -12,7 +12,6 @@ from nllc_tools.judge.faults import AnyFault, Fault, LoanFault
 from nllc_tools.judge.findings import loan_findings
 from nllc_tools.judge.findings.finding import DEEDS
 from nllc_tools.judge.findings.lifetime_findings import names_of
-from nllc_tools.model.chains import Step
 from nllc_tools.model.facts import Facts
 from nllc_tools.model.said import Gone, Place
 
@@ -56,17 +55,12 @@ def of_loan(content: Content, fault: LoanFault) -> Iterator[Label]:
     said = GONE.get(fault.code, "gone here") if fault.is_end() else CONFLICTS.get(way, "conflicts here")
     yield from at(facts, place, fault.against.point, "against", said)
     if facts.is_universal(cause.region) and fault.code not in GONE:
-        yield from outgoing(facts, cause.steps)
+        for named in filter(None, (blame.of_step(facts, step) for step in cause.steps)):
+            if named.place and named.word != "step":    # where what is borrowed is taken out of the function
+                yield Label(named.place.line, "later", f"{DEEDS.get(named.word, 'needed')} here", named.place)
     elif cause.use is not None:
         again = "in the next iteration" if loan_findings.is_later_turn(facts, fault) else "here later"
         yield from at(facts, cause.place, cause.use, "later", f"{'dropped' if cause.is_drop else 'used'} {again}")
-
-
-def outgoing(facts: Facts, steps: list[Step]) -> Iterator[Label]:
-    """Where a chain of constraints takes what is borrowed out of the function."""
-    for named in filter(None, (blame.of_step(facts, step) for step in steps)):
-        if named.place and named.word != "step":
-            yield Label(named.place.line, "later", f"{DEEDS.get(named.word, 'needed')} here", named.place)
 
 
 def of_fault(content: Content, fault: Fault) -> Iterator[Label]:

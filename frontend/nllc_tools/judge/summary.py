@@ -14,6 +14,20 @@ from nllc_tools.judge.labels import Label
 from nllc_tools.judge.names import function_words
 from nllc_tools.model.facts import Facts
 from nllc_tools.model.said import Error
+from nllc_tools.rustc.errors import Error as RustcError
+
+
+class Mark(NamedTuple):
+    """By what an error of rustc, or a finding, is known again: its place, and the words of an error."""
+
+    path: str
+    line: int
+    column: int
+    words: str = ""
+
+
+def mark_of(error: RustcError) -> Mark:
+    return Mark(error.path, error.line, error.column, " ".join(error.words().split()))
 
 
 class Told(NamedTuple):
@@ -41,6 +55,9 @@ class Summary:
     errors: list[Error] = field(default_factory=list)       # all of rustc's
     lines: list[str] = field(default_factory=list)
     page: str = ""
+
+    def mark_of(self, error: Error) -> Mark:
+        return Mark(self.source, error.line, error.column, error.words)
 
     def is_told(self) -> bool:
         """Whether it has findings, or rustc another answer."""

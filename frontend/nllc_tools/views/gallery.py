@@ -105,19 +105,10 @@ def of_functions(shown: Iterable[Shown]) -> Iterator[Card]:
     """A card for each function that has a sentence; its closures and async bodies are on the same card."""
     for name, its in grouped((one.content.facts.remarks.function.split("::{closure#")[0], one) for one in shown).items():
         source = max((one.content.source for one in its if one.content.source), key=lambda source: len(source.lines))
-        doc = list(doc_of(source.lines))
+        doc = [found[1] for found in takewhile(bool, map(DOC.fullmatch, source.lines)) if found]
         if said := visible(" ".join(doc)):
             code = Source(source.path, source.first + len(doc), source.lines[len(doc):])
             yield Card(name.split("::")[-1], said, gravest(its), code)
-
-
-def doc_of(lines: Iterable[str]) -> Iterator[str]:
-    """The words of the doc comment with which lines begin."""
-    for line in lines:
-        found = DOC.fullmatch(line)
-        if not found:
-            return
-        yield found[1]
 
 
 def gravest(shown: Sequence[Shown]) -> list[Shown]:

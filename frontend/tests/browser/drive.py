@@ -15,17 +15,14 @@ import os
 import sys
 import tempfile
 
-HERE = os.path.dirname(os.path.abspath(__file__))
-ROOT = os.path.dirname(os.path.dirname(os.path.dirname(HERE)))
-sys.path[:0] = [HERE, os.path.join(ROOT, "frontend")]
+from paths import EXAMPLES, TESTS
+from big_text import facts_text
+from devtools import Browser
 
-from big_text import facts_text  # noqa: E402 (the paths stand above)
-from devtools import Browser  # noqa: E402
-
-from nllc_tools.base import nllc  # noqa: E402
-from nllc_tools.commands.page import main as make_page  # noqa: E402
-from nllc_tools.texts.facts.reader import read_facts  # noqa: E402
-from nllc_tools.texts.facts.values import read_values  # noqa: E402
+from nllc_tools.base import nllc
+from nllc_tools.commands.page import main as make_page
+from nllc_tools.texts.facts.reader import read_facts
+from nllc_tools.texts.facts.values import read_values
 
 SLOW = 250      # milliseconds for one choice are too many
 LEAST = 4.5     # the contrast that text must have
@@ -282,8 +279,8 @@ class Drive:
 
 def texts(folder):
     """The texts that are tried where none is named."""
-    yield os.path.join(ROOT, "frontend", "tests", "page_samples", "pick.facts")
-    yield os.path.join(ROOT, "examples", "squeeze.facts")
+    yield os.path.join(TESTS, "page_samples", "pick.facts")
+    yield os.path.join(EXAMPLES, "squeeze.facts")
     for points in (200, 2000):
         path = os.path.join(folder, f"made-{points}.facts")
         with open(path, "w", encoding="utf-8") as file:

@@ -15,13 +15,13 @@ import os
 import sys
 import tempfile
 
-HERE = os.path.dirname(os.path.abspath(__file__))
-sys.path[:0] = [HERE, os.path.dirname(HERE)]
+import paths  # noqa: F401 (it puts these on the path)
+from devtools import Browser
+from page_support import EXAMPLES
+from rooms import STATES
+from schedule_support import SCHEDULES, example_content
 
-from devtools import Browser  # noqa: E402 (the paths stand above)
-from schedule_support import EXAMPLES, REFERENCE, SCHEDULES, example_content  # noqa: E402
-
-from nllc_tools.commands.schedule import main as make_page  # noqa: E402
+from nllc_tools.commands.schedule import main as make_page
 
 LEAST = 4.5     # the contrast that text must have
 WIDTHS = (1920, 1280, 1000, 768, 480, 320)
@@ -191,7 +191,7 @@ def main():
     asked = parser.parse_args()
     if asked.shots:
         os.makedirs(asked.shots, exist_ok=True)
-    os.environ["WORLD_PROGRAM"] = REFERENCE
+    os.environ["WORLD_PROGRAM"] = STATES
     wrong = []
     with tempfile.TemporaryDirectory() as folder, Browser() as browser:
         for name in SCHEDULES:

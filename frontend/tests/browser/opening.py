@@ -11,14 +11,11 @@ import os
 import sys
 import tempfile
 
-HERE = os.path.dirname(os.path.abspath(__file__))
-TESTS = os.path.dirname(HERE)
-sys.path[:0] = [HERE, TESTS, os.path.dirname(TESTS)]
+import paths  # noqa: F401 (it puts these on the path)
+from devtools import Browser
+from test_page_browser import large
 
-from devtools import Browser  # noqa: E402 (the paths stand above)
-from test_page_browser import large  # noqa: E402
-
-from nllc_tools.views.html.page import page  # noqa: E402
+from nllc_tools.views.html.page import page
 
 TIMES = 5
 

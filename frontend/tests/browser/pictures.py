@@ -18,13 +18,10 @@ import subprocess
 import sys
 import tempfile
 
-HERE = os.path.dirname(os.path.abspath(__file__))
-ROOT = os.path.dirname(os.path.dirname(os.path.dirname(HERE)))
-sys.path[:0] = [HERE, os.path.join(ROOT, "frontend")]
+from paths import ROOT
+from devtools import Browser
 
-from devtools import Browser  # noqa: E402 (the paths stand above)
-
-from nllc_tools.texts.facts.reader import read_facts  # noqa: E402
+from nllc_tools.texts.facts.reader import read_facts
 
 SIZE = (1440, 860)
 

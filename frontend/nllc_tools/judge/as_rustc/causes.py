@@ -8,7 +8,6 @@ from typing import Callable, Optional
 from nllc_tools.base.walks import backwards, shortest
 from nllc_tools.judge.faults import Cause
 from nllc_tools.model import chains
-from nllc_tools.model.chains import Step
 from nllc_tools.model.facts import ALL, Facts
 from nllc_tools.model.values import Values
 
@@ -19,7 +18,7 @@ UNWIND = r"\bunwind: (bb\d+)|\) -> (bb\d+)$"   # a call that never returns has t
 
 def why(facts: Facts, values: Values, region: int, point: int) -> Cause:
     """The nearest region for whose sake this one holds the point."""
-    came_by: dict[int, Optional[Step]] = {region: None}
+    came_by: dict[int, Optional[chains.Step]] = {region: None}
     nearest = [region]
     for sup in nearest:
         if facts.is_universal(sup):
@@ -60,12 +59,12 @@ def upper_bound(facts: Facts, values: Values, region: int, nearest: int) -> int:
     return bound
 
 
-def steps_to(came_by: dict[int, Optional[Step]], region: int) -> list[Step]:
+def steps_to(came_by: dict[int, Optional[chains.Step]], region: int) -> list[chains.Step]:
     """The steps from the region to the loan's."""
     return backwards(came_by, region, lambda step: step.constraint.sup)
 
 
-def used(facts: Facts, region: int, point: int, steps: list[Step]) -> Cause:
+def used(facts: Facts, region: int, point: int, steps: list[chains.Step]) -> Cause:
     """The cause with the nearest point, from this one on, that uses or drops a variable of it.
 
     Ways on which a panic goes out are looked at where no other leads to one, as rustc does.

@@ -11,8 +11,7 @@ from nllc_tools.judge.faults import AnyFault, Fault, LoanFault
 from nllc_tools.model.facts import Facts
 from nllc_tools.model.region_names import tick
 from nllc_tools.model.said import Error, Label
-from nllc_tools.texts.snippets import snippet, text_of
-from nllc_tools.texts.source import Source
+from nllc_tools.texts.source import Source, line_of, snippet
 
 HERE = r"let's call (?:the lifetime of this reference|this) `('\d+)`"
 TYPE = r"has type `(.*'\d+.*)`"
@@ -98,7 +97,7 @@ def names_of(facts: Facts, fault: Optional[AnyFault], error: Error) -> dict[int,
 
 def named_line(source: Optional[Source], line: int, names: Iterable[Label]) -> str:
     """A line of the source with the names put in, behind each `&` or in place of each `'_`."""
-    code: str = text_of(source, line)
+    code = line_of(source, line) or ""
     for place, name in sorted(names, reverse=True):
         there = code[place.column - 1:place.end - 1]
         put = name if there == "'_" else f"{there}{name} " if there == "&" else f"{there}<{name}>"

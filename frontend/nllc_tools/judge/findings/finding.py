@@ -10,7 +10,7 @@ from nllc_tools.judge.faults import AnyFault
 from nllc_tools.judge.findings import advice
 from nllc_tools.model.chains import Step
 from nllc_tools.model.said import Blamed, Error, Place, Within
-from nllc_tools.texts.snippets import snippet, whole_line
+from nllc_tools.texts.source import snippet, whole_line
 
 # What a constraint of a category does with what stands at its place.
 DEEDS = {"return": "returned", "yield": "yielded", "constant": "used as a constant",
@@ -36,9 +36,6 @@ class Finding(NamedTuple):
     fault: AnyFault
     more: list[Sentence] = []
     within: Optional[Within] = None
-
-    def is_at(self, line: int, column: int) -> bool:
-        return self.place is not None and self.place[:2] == (line, column)
 
 
 def notes(content: Content, fault: AnyFault, error: Optional[Error]) -> list[Sentence]:

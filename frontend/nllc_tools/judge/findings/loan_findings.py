@@ -12,7 +12,7 @@ from nllc_tools.judge.findings.finding import Finding, notes, stops_of, within
 from nllc_tools.model import chains
 from nllc_tools.model.facts import Facts
 from nllc_tools.model.said import Error, Loan, Place
-from nllc_tools.texts.snippets import borrowed, snippet, whole_line
+from nllc_tools.texts.source import borrowed, snippet, whole_line
 
 # What is done to a place that is lent, and what it suffers; all else borrows it.
 ACTS = {"moves": "moves", "assigns": "assigns to", "reads": "uses", "looks": "looks at"}

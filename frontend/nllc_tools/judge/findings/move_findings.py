@@ -8,7 +8,7 @@ from nllc_tools.judge.content import Content
 from nllc_tools.judge.findings.finding import Finding, notes
 from nllc_tools.model.facts import Facts
 from nllc_tools.model.said import Error, Gone, Label
-from nllc_tools.texts.snippets import snippet, whole_line
+from nllc_tools.texts.source import snippet, whole_line
 
 MOST_LINES = 6
 BEFORE = r"moved here|moved due to|first assignment"

@@ -1,16 +1,16 @@
 """The forms of lines of both kinds of texts, and the words of the kinds of fault (docs/FORMATS.md)."""
 
-# Of a facts text: what a line is written as, and its group, in which it has to stand.
+# Of a facts text: what a line is written as.
 FACTS = {
-    "points": ("points N", 1),
-    "universal": ("universal 'a", 2),
-    "outlives": ("outlives 'a 'b", 3),
-    "region": ("region 'x", 4),
-    "next": ("next P Q", 5),
-    "return": ("return P", 5),
-    "base": ("base 'x P", 5),
-    "constraint": ("constraint 'a 'b P, or in version 2 constraint 'a 'b all", 5),
-    "end": ("end", 6),
+    "points": "points N",
+    "universal": "universal 'a",
+    "outlives": "outlives 'a 'b",
+    "region": "region 'x",
+    "next": "next P Q",
+    "return": "return P",
+    "base": "base 'x P",
+    "constraint": "constraint 'a 'b P, or in version 2 constraint 'a 'b all",
+    "end": "end",
 }
 FACTS_ORDER = "one `points` line, then `universal`, `outlives` and `region` lines, then all others, then `end`"
 

@@ -8,28 +8,19 @@ import json
 import os
 import re
 from functools import cache
-from typing import Any, Iterator, NamedTuple, Optional, Sequence
+from typing import Iterator, Optional, Sequence
 
 from nllc_tools.base.sentences import plain, visible
-from nllc_tools.judge.summary import Summary, Told
+from nllc_tools.judge.summary import Summary, Told, mark_of
 from nllc_tools.judge.findings.finding import Finding
-from nllc_tools.model.said import Error as OwnError, Place
+from nllc_tools.model.said import Place
 from nllc_tools.rustc.compiler import version
-from nllc_tools.rustc.errors import Error, error_of, without_colours
+from nllc_tools.rustc.errors import error_of, without_colours
 from nllc_tools.rustc.functions import Checked
 from nllc_tools.views.terminal import finding_lines
 
-Said = dict[str, Any]
+Said = dict[str, object]
 WORD = re.compile(r"\w*")
-
-
-class Mark(NamedTuple):
-    """By what an error of rustc is known again."""
-
-    path: str
-    line: int
-    column: int
-    words: str
 
 
 def lines(checked: Checked, answers: list[Summary]) -> Iterator[str]:
@@ -73,8 +64,8 @@ def span(path: str, place: Sequence[int], label: Optional[str], is_primary: bool
     """
     first, column, last, end = place
     text = lines_of(path)
-    if column and (first, column) == (last, end):
-        end += len(WORD.match(line_of(text, first), column - 1)[0])
+    if column and (first, column) == (last, end) and (word := WORD.match(line_of(text, first), column - 1)):
+        end += len(word[0])
     if not column:
         line = line_of(text, first).rstrip()
         column, end = len(line) - len(line.lstrip()) + 1, len(line) + 1
@@ -123,11 +114,11 @@ def rendered(path: str, finding: Finding, message: str, children: list[Said]) ->
     return f"error{code}: {message}\n{place}{notes}\n"
 
 
-def others(checked: Checked, answers: list[Summary]) -> Iterator[Said]:
+def others(checked: Checked, answers: list[Summary]) -> Iterator[object]:
     """What rustc says and no fault does; where `nllc` differs, with a note that says so, and why."""
-    told = {mark_in(said, error) for said in answers for error in said.errors}
-    differing = {mark_in(said, one.error): visible(plain(one.why)) for said in answers for one in said.differences}
-    told -= {mark_in(said, error) for said in answers
+    told = {said.mark_of(error) for said in answers for error in said.errors}
+    differing = {said.mark_of(one.error): visible(plain(one.why)) for said in answers for one in said.differences}
+    told -= {said.mark_of(error) for said in answers
              for error in (*said.refused, *(one.error for one in (*said.differences, *said.further)))}
     own = {mark_of(error) for error in (*checked.errors, *checked.unanswered)}
     for unit in checked.units:
@@ -137,18 +128,11 @@ def others(checked: Checked, answers: list[Summary]) -> Iterator[Said]:
             is_own = mark in own if checked.is_part or diagnostic["level"] == "error" else True
             if diagnostic["spans"] and is_own and mark not in told:
                 notes = [child("note", f"nllc: no fault there: {differing[mark]}")] if mark in differing else []
-                yield moved(diagnostic | {"children": diagnostic["children"] + notes}, unit.root)
+                told_of: Said = {**diagnostic, "children": [*diagnostic["children"], *notes]}
+                yield moved(told_of, unit.root)
 
 
-def mark_in(said: Summary, error: OwnError) -> Mark:
-    return Mark(said.source, error.line, error.column, error.words)
-
-
-def mark_of(error: Error) -> Mark:
-    return Mark(error.path, error.line, error.column, " ".join(error.words().split()))
-
-
-def moved(thing: Any, root: str) -> Any:
+def moved(thing: object, root: str) -> object:
     """The same with the files of rustc's folder as they are called from the current one, and without colours."""
     if isinstance(thing, list):
         return [moved(one, root) for one in thing]

@@ -10,7 +10,6 @@ from nllc_tools.texts.schedule_states import Growth, State, under_way
 from nllc_tools.views.html.writing import items, sentence, text
 from nllc_tools.views.schedule import event_words
 from nllc_tools.views.schedule.content import Content
-from nllc_tools.views.schedule.event_words import Happening
 from nllc_tools.views.schedule.reasons import Reading, readings
 
 MOST_ROWS = 12      # of a list of what is under way, or of what grew, no more is written out
@@ -25,7 +24,7 @@ def event_row(content: Content, number: int) -> str:
     """An event with its answer; why it did nothing, if it didn't."""
     state = content.run.states[number]
     words = event_words.words_of(state.event) if number else "the first state"
-    why = f'<span class="why">{sentence(Happening(content.facts, content.run, number).why_not())}</span>' \
+    why = f'<span class="why">{sentence(event_words.Happening(content.facts, content.run, number).why_not())}</span>' \
         if state.answer == "not now" else ""
     return (f'<li><a href="#event={number}" data-event="{number}"><span class="no">{number or ""}</span>'
             f'<code>{text(words)}</code>{answer(state)}<span class="balance">{state.balance}</span>{why}</a></li>')
@@ -35,21 +34,17 @@ def answer(state: State) -> str:
     return f'<span class="answer {state.answer.replace(" ", "-") or "first"}">{text(state.answer)}</span>'
 
 
-def event_parts(content: Content) -> str:
-    return "".join(event_part(content, number) for number in range(len(content.run.states)))
-
-
 def event_part(content: Content, number: int) -> str:
     """What is said of an event, of the growths in it, and of the balance after it."""
     state = content.run.states[number]
     if number:
         head = (f"<h2>{number}. <code>{text(event_words.words_of(state.event))}</code> {answer(state)}</h2>"
-                f"<p>{sentence(Happening(content.facts, content.run, number).told())}</p>")
+                f"<p>{sentence(event_words.Happening(content.facts, content.run, number).told())}</p>")
     else:
         head = ("<h2>Before the first event</h2><p>No owner has done anything yet. Each owes for its load, "
                 f"so the balance is {state.balance}.</p>")
     grown = f"{taken_part(content, number)}{grown_part(content, number)}" if state.answer == "done" else ""
-    rows = [sentence(event_words.way_words(content.facts, *way)) for way in under_way(state)]
+    rows = [sentence(event_words.way_words(content.facts, way)) for way in under_way(state)]
     return (f'<article class="said" data-from="{number}" data-to="{number + 1}">{head}{grown}'
             f"<h3>The balance counts {state.balance}</h3>"
             f'{row_list(rows) if rows else "<p>Nothing is under way.</p>"}</article>')

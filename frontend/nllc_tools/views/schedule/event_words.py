@@ -1,12 +1,16 @@
 """Events in sentences. A sentence is a list of strings; those that are `Code` are shown as code."""
 
-from dataclasses import dataclass
-from typing import Iterable, Optional
+from typing import Iterable
 
 from nllc_tools.base.sentences import Code, joined, plural
 from nllc_tools.model.facts import Facts
 from nllc_tools.model.region_names import tick
-from nllc_tools.texts.schedule_states import Event, Growth, Run, Seat, State
+from nllc_tools.texts.schedule_states import Event, Growth, Run, UnderWay
+
+# What counts in the balance.
+WAYS = {"load": "the load of owner {0.owner}", "item": "what owner {0.owner} works on",
+        "out": ", which owner {0.owner} still has to send to owner {0.reader}",
+        "box": ", in the box from owner {0.owner} to owner {0.reader}"}
 
 
 def element_name(facts: Facts, element: int) -> str:
@@ -37,43 +41,21 @@ def words_of(event: Event) -> str:
     return " ".join([event.word, *map(str, numbers)])
 
 
-def way_words(facts: Facts, kind: str, owner: int, reader: Optional[int], one: Optional[Growth]) -> list[str]:
+def way_words(facts: Facts, one: UnderWay) -> list[str]:
     """One thing that counts in the balance."""
-    if one is None:
-        return [f"the load of owner {owner}" if kind == "load" else f"what owner {owner} works on"]
-    place = f"which owner {owner} still has to send to owner {reader}" if kind == "out" else \
-        f"in the box from owner {owner} to owner {reader}"
-    return [growth(facts, one), f", {place}"]
+    said = WAYS[one.kind].format(one)
+    return [growth(facts, one.growth), said] if one.growth else [said]
 
 
-@dataclass(frozen=True)
 class Happening:
     """What an event did, or why it did nothing."""
 
-    facts: Facts
-    run: Run
-    number: int
-
-    @property
-    def before(self) -> State:
-        return self.run.states[self.number - 1]
-
-    @property
-    def after(self) -> State:
-        return self.run.states[self.number]
-
-    @property
-    def event(self) -> Event:
-        return self.after.event
-
-    @property
-    def owner(self) -> str:
-        return f"Owner {self.event.owner}"
-
-    @property
-    def seat(self) -> Seat:
-        """The owner's, before the event."""
-        return self.before.seats[self.event.owner]
+    def __init__(self, facts: Facts, run: Run, number: int):
+        self.facts, self.run, self.number = facts, run, number
+        self.before, self.after = run.states[number - 1:number + 1]
+        self.event = self.after.event
+        self.owner = f"Owner {self.event.owner}"
+        self.seat = self.before.seats[self.event.owner]     # the owner's, before the event
 
     def told(self) -> list[str]:
         if self.after.answer == "not now":

@@ -25,7 +25,9 @@ def owner_part(content: Content, owner: int) -> str:
     copies = [strip(content, owner, region, f'<span class="of">of owner {cut[region]}</span>')
               for region in range(len(cut)) if content.reads(owner, region)]
     log = growths(content, "Log", owner, lambda state: state.seats[owner].log)
-    received = "".join(received_part(content, owner, sender) for sender in range(content.run.owners) if content.tells(sender, owner))
+    received = "".join(
+        growths(content, f"Received from owner {sender}", sender, lambda state: state.seats[owner].received.get(sender, []))
+        for sender in range(content.run.owners) if content.tells(sender, owner))
     return (f'<section class="owner" id="owner-{owner}" aria-label="Owner {owner}">'
             f'<header><h2>Owner {owner}</h2>{marks(content.run.states, owner)}</header>'
             f'{strips("Its regions", own) or NO_REGION}{strips("Copies", copies)}{log}{received}</section>')
@@ -66,10 +68,6 @@ def cell(facts: Facts, region: int, element: int, since: Optional[int]) -> str:
     return f'<i class="{kind}"{held}>{text(element_name(facts, element))}</i>'
 
 
-def received_part(content: Content, owner: int, sender: int) -> str:
-    return growths(content, f"Received from owner {sender}", sender, lambda state: state.seats[owner].received.get(sender, []))
-
-
 def lane_parts(content: Content) -> str:
     owners = range(content.run.owners)
     return "".join(lane_part(content, i, j) for i in owners for j in owners if content.tells(i, j)) or \
@@ -77,13 +75,11 @@ def lane_parts(content: Content) -> str:
 
 
 def lane_part(content: Content, sender: int, reader: int) -> str:
-    parts = "".join(f'<div class="part {part}">{lane(content, sender, reader, part)}</div>' for part in PARTS)
+    lanes = ((part, growths(content, title, sender, lambda state: state.seats[sender].lane(reader, part), " data-ghosts"))
+             for part, title in PARTS.items())
+    parts = "".join(f'<div class="part {part}">{shown}</div>' for part, shown in lanes)
     return (f'<section class="lane" id="lane-{sender}-{reader}"><h2>Owner {sender} '
             f'<span class="arrow">→</span> owner {reader}</h2><div class="parts">{parts}</div></section>')
-
-
-def lane(content: Content, sender: int, reader: int, part: str) -> str:
-    return growths(content, PARTS[part], sender, lambda state: state.seats[sender].lane(reader, part), " data-ghosts")
 
 
 def growths(content: Content, title: str, owner: int, list_of: Callable[[State], Iterable[Growth]], extra: str = "") -> str:

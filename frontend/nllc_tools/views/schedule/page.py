@@ -9,7 +9,7 @@ from nllc_tools.model.facts import Facts
 from nllc_tools.texts.schedule_states import State
 from nllc_tools.views.html.writing import STANDINGS, about, back, compact, fill, icon, script_data, text
 from nllc_tools.views.schedule.content import Content
-from nllc_tools.views.schedule.event_part import constraint_list, event_list, event_parts
+from nllc_tools.views.schedule.event_part import constraint_list, event_list, event_part
 from nllc_tools.views.schedule.owner_part import lane_parts, owner_part
 from nllc_tools.views.schedule.spans import values
 from nllc_tools.views.schedule.wait_part import wait_part
@@ -33,7 +33,7 @@ def page(content: Content, index: str = "") -> str:
         "balances": "".join(f"<b {span.attributes()}>{balance}</b>"
                             for balance, span in values(run.states, lambda state: state.balance)),
         "events": event_list(content),
-        "said": event_parts(content),
+        "said": "".join(event_part(content, number) for number in range(len(run.states))),
         "owners": "".join(owner_part(content, owner) for owner in range(run.owners)),
         "kind": "pair" if run.owners == 2 else "many",
         "lanes": lane_parts(content),

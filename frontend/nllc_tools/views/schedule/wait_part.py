@@ -1,11 +1,10 @@
 """A drawing of who waits for whom: owners in a ring, messages on their way, and what idle owners wait for."""
 
-from math import cos, pi, sin
+from cmath import pi, rect
 from typing import Iterator, Sequence
 
 from nllc_tools.base.sentences import plural
 from nllc_tools.texts.schedule_states import State
-from nllc_tools.views.html.graph.layout import Spot
 from nllc_tools.views.html.writing import text
 from nllc_tools.views.schedule.content import Content
 from nllc_tools.views.schedule.spans import values
@@ -66,26 +65,24 @@ def standing(state: State, owner: int) -> str:
     return "ready" if is_ready else "waiting"
 
 
-def nodes(content: Content, owner: int, at: Spot) -> Iterator[str]:
+def nodes(content: Content, owner: int, at: complex) -> Iterator[str]:
     for kind, span in values(content.run.states, lambda state: standing(state, owner)):
         yield (f'<g class="owner-node {kind}" {span.attributes()}><title>owner {owner} {STANDINGS[kind]}</title>'
-               f'<circle cx="{at.x:.1f}" cy="{at.y:.1f}" r="{NODE}"/>'
-               f'<text x="{at.x:.1f}" y="{at.y + 5:.1f}">{owner}</text></g>')
+               f'<circle cx="{at.real:.1f}" cy="{at.imag:.1f}" r="{NODE}"/>'
+               f'<text x="{at.real:.1f}" y="{at.imag + 5:.1f}">{owner}</text></g>')
 
 
-def messages(content: Content, sender: int, reader: int, places: Sequence[Spot]) -> Iterator[str]:
+def messages(content: Content, sender: int, reader: int, places: Sequence[complex]) -> Iterator[str]:
     """An arrow with the number of messages on their way, while there are any."""
-    def count_of(state: State) -> int:
-        return sum(len(state.seats[sender].lane(reader, part)) for part in ("fresh", "out", "box"))
-
-    for count, span in values(content.run.states, count_of):
+    for count, span in values(content.run.states, lambda state: sum(
+            len(state.seats[sender].lane(reader, part)) for part in ("fresh", "out", "box"))):
         if count:
             yield (f'<g class="message" {span.attributes()}>'
                    f"<title>{plural(count, 'message')} from owner {sender} to owner {reader}</title>"
                    f"{arrow(places[sender], places[reader], str(count))}</g>")
 
 
-def waits(content: Content, reader: int, sender: int, places: Sequence[Spot]) -> Iterator[str]:
+def waits(content: Content, reader: int, sender: int, places: Sequence[complex]) -> Iterator[str]:
     """A dashed arrow from an owner that waits to one that may still tell it something."""
     for is_so, span in values(content.run.states, lambda state: is_waiting(state, reader)):
         if is_so:
@@ -95,32 +92,26 @@ def waits(content: Content, reader: int, sender: int, places: Sequence[Spot]) ->
 
 # Geometry
 
-def place(number: int, owners: int, ring: int) -> Spot:
+def place(number: int, owners: int, ring: int) -> complex:
     """Where an owner stands: two side by side, more from the top on in a ring."""
-    angle = pi * (1 - number) if owners == 2 else 2 * pi * number / owners - pi / 2
-    return Spot(ring * cos(angle), ring * sin(angle))
+    return rect(ring, pi * (1 - number) if owners == 2 else 2 * pi * number / owners - pi / 2)
 
 
-def arrow(begin: Spot, end: Spot, label: str = "") -> str:
+def arrow(begin: complex, end: complex, label: str = "") -> str:
     """A line that bends to its left, so that the one back is another one; at its middle the label."""
-    mid = Spot((begin.x + end.x) / 2 + BEND * (end.y - begin.y), (begin.y + end.y) / 2 - BEND * (end.x - begin.x))
-    begin, end = towards(begin, mid, NODE + 2), towards(end, mid, NODE + 4)
-    x, y = (begin.x + 2 * mid.x + end.x) / 4, (begin.y + 2 * mid.y + end.y) / 4
-    words = f'<circle class="count" cx="{x:.1f}" cy="{y:.1f}" r="9"/><text x="{x:.1f}" y="{y + 4:.1f}">{label}</text>' \
-        if label else ""
-    return (f'<path class="way" d="M{begin.x:.1f} {begin.y:.1f}Q{mid.x:.1f} {mid.y:.1f} {end.x:.1f} {end.y:.1f}"/>'
-            f'<path class="tip" d="{tip(mid, end)}"/>{words}')
+    mid = (begin + end) / 2 - BEND * (end - begin) * 1j
+    begin, end = begin + far(mid - begin, NODE + 2), end + far(mid - end, NODE + 4)
+    at, tip = (begin + 2 * mid + end) / 4, far(end - mid, 8)
+    words = f'<circle class="count" cx="{at.real:.1f}" cy="{at.imag:.1f}" r="9"/><text x="{at.real:.1f}" y="{at.imag + 4:.1f}">' \
+        f"{label}</text>" if label else ""
+    return (f'<path class="way" d="M{spot(begin)}Q{spot(mid)} {spot(end)}"/>'
+            f'<path class="tip" d="M{spot(end)}L{spot(end - tip + tip * 1j / 2)}L{spot(end - tip - tip * 1j / 2)}z"/>{words}')
 
 
-def towards(begin: Spot, end: Spot, far: float) -> Spot:
-    """The point so far from the first one on the way to the second."""
-    length = ((end.x - begin.x) ** 2 + (end.y - begin.y) ** 2) ** 0.5
-    return Spot(begin.x + (end.x - begin.x) * far / length, begin.y + (end.y - begin.y) * far / length)
+def far(way: complex, length: float) -> complex:
+    """So much of the way."""
+    return way * length / abs(way)
 
 
-def tip(begin: Spot, end: Spot) -> str:
-    """The head of an arrow that comes from the first point to the second."""
-    length = ((end.x - begin.x) ** 2 + (end.y - begin.y) ** 2) ** 0.5
-    x, y = (end.x - begin.x) / length * 8, (end.y - begin.y) / length * 8
-    return (f"M{end.x:.1f} {end.y:.1f}L{end.x - x - y / 2:.1f} {end.y - y + x / 2:.1f}"
-            f"L{end.x - x + y / 2:.1f} {end.y - y - x / 2:.1f}z")
+def spot(at: complex) -> str:
+    return f"{at.real:.1f} {at.imag:.1f}"

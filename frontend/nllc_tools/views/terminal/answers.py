@@ -4,9 +4,10 @@ import re
 from dataclasses import dataclass
 from typing import Iterator, NamedTuple, Optional
 
-from nllc_tools.base.sentences import plain, plural, visible
+from nllc_tools.base.sentences import plain, some, visible
 from nllc_tools.judge.findings.finding import where
-from nllc_tools.judge.summary import Summary
+from nllc_tools.judge.summary import Mark, Summary, mark_of
+from nllc_tools.judge.verdicts import counted
 from nllc_tools.model.said import Error as OwnError
 from nllc_tools.rustc.compiler import version
 from nllc_tools.rustc.errors import Error
@@ -28,20 +29,7 @@ class Answer:
     said: Optional[Summary] = None
 
 
-class Spot(NamedTuple):
-    """Where something is told."""
-
-    source: str
-    line: int
-    column: int
-
-
-class Shown(NamedTuple):
-    """An error of rustc that is shown: of several with the same words at one place its number."""
-
-    spot: Spot
-    words: str
-    number: int
+Shown = tuple[Mark, int]    # an error of rustc that is shown: of several with the same words at one place its number
 
 
 class Remark(NamedTuple):
@@ -61,8 +49,7 @@ def tell_silent(silent: list[tuple[bool, str]]) -> None:
     """The functions of which nothing is told; closures only where there is nothing else."""
     names = list(dict.fromkeys([name for is_closure, name in silent if not is_closure] or [name for _, name in silent]))
     if names:
-        more = f" and {len(names) - MOST_NAMES} more" if len(names) > MOST_NAMES else ""
-        print(f"no fault: {', '.join(names[:MOST_NAMES])}{more}")
+        print(f"no fault: {some(names, MOST_NAMES)}")
 
 
 def tell_all(checked: Checked, answers: list[Answer]) -> None:
@@ -81,20 +68,18 @@ def tell_all(checked: Checked, answers: list[Answer]) -> None:
         for line in lines:
             print(f"  {line}")
     tell_silent([(is_closure, name) for is_closure, function, name in silent if outermost(function) not in loud])
-    told_of = {(said.source, *error[:3]) for said in summaries for error in said.errors}
+    told_of = {said.mark_of(error) for said in summaries for error in said.errors}
     for error in checked.errors:
-        if error.places and (error.path, error.line, error.column, " ".join(error.words().split())) not in told_of:
+        if error.places and mark_of(error) not in told_of:
             print(f"{error.where()}: {version()}: {error.words()}\n"
                   f"    not inside a function, so it has no answer here")
 
 
 def verdict(said: Summary) -> str:
-    counts = [plural(count, noun) for count, noun in
-              ((said.faults, "fault"), (said.loans, "loan error"), (said.moves, "move error")) if count]
-    return ", ".join(counts) or ("refused by rustc" if said.refused else "no fault")
+    return "refused by rustc" if said.refused and not said.count() else counted(said.faults, said.loans, said.moves)
 
 
-def told(said: Summary, places: set[Spot], errors: list[Error], shown: set[Shown]) -> list[str]:
+def told(said: Summary, places: set[Mark], errors: list[Error], shown: set[Shown]) -> list[str]:
     """A function's lines; `places` are those of all functions' faults, the errors are rustc's.
 
     An error of rustc that is of a closure and of the function around it is shown once; of several with the same words
@@ -103,20 +88,20 @@ def told(said: Summary, places: set[Spot], errors: list[Error], shown: set[Shown
     lines = [line for one in said.findings for line in finding_lines.lines(said.path, one.finding)] + said.lines
     for remarks in remarks_of(said):
         for at, one in enumerate(remarks):
-            spot = Spot(said.source, one.error.line, one.error.column)
-            mark = Shown(spot, one.error.words, sum(other.error[:3] == one.error[:3] for other in remarks[:at]))
-            if mark not in shown and (spot not in places or not one.error.is_judged()):
-                shown.add(mark)
+            mark = said.mark_of(one.error)
+            numbered = mark, sum(other.error[:3] == one.error[:3] for other in remarks[:at])
+            if numbered not in shown and (mark._replace(words="") not in places or not one.error.is_judged()):
+                shown.add(numbered)
                 lines += of_rustc(said.source, one)
     for place in places_of(said, False):
         if not is_named(errors, place):
-            lines.append(f"{place.source}:{place.line}:{place.column}: {version()} reports no error there")
+            lines.append(f"{place.path}:{place.line}:{place.column}: {version()} reports no error there")
     return [visible(line) for line in lines]
 
 
-def places_of(said: Summary, is_of_rustc: Optional[bool] = None) -> list[Spot]:
+def places_of(said: Summary, is_of_rustc: Optional[bool] = None) -> list[Mark]:
     """The places of a function's findings; or of those of which rustc has an error, or has none."""
-    return [Spot(said.source, *one.finding.place[:2]) for one in said.findings
+    return [Mark(said.source, *one.finding.place[:2]) for one in said.findings
             if one.finding.place and is_of_rustc in (None, one.is_of_rustc)]
 
 
@@ -135,6 +120,6 @@ def of_rustc(source: str, one: Remark) -> list[str]:
     return [f"{where(*error.within) if error.within else used}: {version()}: {error.words}{one.more}", f"    {one.why}", *macro]
 
 
-def is_named(errors: list[Error], spot: Spot) -> bool:
+def is_named(errors: list[Error], spot: Mark) -> bool:
     """Whether rustc names an error there; of a place of which the line alone is known, on the line."""
     return any((error.path, error.line) == spot[:2] and spot.column in (0, error.column) for error in errors)

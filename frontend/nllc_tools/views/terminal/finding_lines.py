@@ -2,8 +2,7 @@
 
 from typing import NamedTuple
 
-from nllc_tools.base import sentences
-from nllc_tools.base.sentences import visible
+from nllc_tools.base.sentences import plain, visible
 from nllc_tools.judge.findings.finding import HELP, Finding, where
 
 
@@ -16,8 +15,8 @@ class Parts(NamedTuple):
 
 
 def parts(finding: Finding) -> Parts:
-    below = [visible(sentences.plain(one)) for one in (finding.cause, *finding.more)]
-    return Parts(visible(sentences.plain(finding.head)), [one for one in below if not one.startswith(HELP)],
+    below = [visible(plain(one)) for one in (finding.cause, *finding.more)]
+    return Parts(visible(plain(finding.head)), [one for one in below if not one.startswith(HELP)],
                  [one.removeprefix(HELP) for one in below if one.startswith(HELP)])
 
 
@@ -25,6 +24,6 @@ def lines(path: str, finding: Finding) -> list[str]:
     """The lines for a terminal: what it is, how it comes about, what else is said, and what to do about it."""
     used = where(path, finding.place)
     named = where(*finding.within) if finding.within else used
-    head = ": ".join(filter(None, (named, finding.code, sentences.plain(finding.head))))
-    macro = [sentences.of_macro(used, path)] if finding.within else []
-    return [head, *(f"    {sentences.plain(one)}" for one in (finding.cause, *macro, *finding.more))]
+    head = ": ".join(filter(None, (named, finding.code, plain(finding.head))))
+    macro = [[f"in this macro invocation: {used}; the lines named here are of {path}"]] if finding.within else []
+    return [head, *(f"    {plain(one)}" for one in (finding.cause, *macro, *finding.more))]

@@ -10,7 +10,6 @@ from nllc_tools.model.facts import Facts
 from nllc_tools.views.html.writing import text as escape
 from nllc_tools.views.html.graph import lines
 from nllc_tools.views.html.graph.layout import Shape, Size, Spot
-from nllc_tools.views.html.graph.lines import Line, Row
 
 CELL = 11           # the side of a point's cell
 PITCH = 13          # from one cell to the next
@@ -29,18 +28,18 @@ def columns(count: int) -> int:
     return min(count, max(4, min(16, int((2.2 * count) ** 0.5))))
 
 
-def title_width(facts: Facts, line: Line) -> float:
+def title_width(facts: Facts, line: lines.Line) -> float:
     block, numbers = lines.title(facts, line)
     return 2 * PAD + TITLE_LETTER * (len(block) + len(numbers) + 1)
 
 
-def folded_size(facts: Facts, line: Line) -> Size:
+def folded_size(facts: Facts, line: lines.Line) -> Size:
     wide = columns(len(line))
     high = -(-len(line) // wide)
     return Size(max(wide * PITCH - 2 + 2 * PAD, title_width(facts, line)), HEAD + high * PITCH - 2 + PAD)
 
 
-def folded_cells(facts: Facts, line: Line) -> str:
+def folded_cells(facts: Facts, line: lines.Line) -> str:
     wide = columns(len(line))
     return "".join(cell(facts, point, Spot(PAD + at % wide * PITCH, HEAD + at // wide * PITCH))
                    for at, point in enumerate(line))
@@ -52,7 +51,7 @@ def room_for_words(shape: Shape) -> int:
     return MOST_ALONE if widest == 1 else MOST_LETTERS
 
 
-def row_words(row: Row, most: int) -> str:
+def row_words(row: lines.Row, most: int) -> str:
     """The statement, shortened: where it goes on to is what the edges show."""
     text = TARGETS.sub("", visible(row.text))
     return text if len(text) <= most else text[:most - 1] + "…"
@@ -63,11 +62,11 @@ class Rows:
     """The rows of an unfolded box, of whose statements so many letters are shown."""
 
     facts: Facts
-    line: Line
-    rows: Sequence[Row]
+    line: lines.Line
+    rows: Sequence[lines.Row]
     most: int
 
-    def name(self, row: Row) -> str:
+    def name(self, row: lines.Row) -> str:
         return self.facts.point_name(row.points[0])
 
     @cached_property
@@ -100,7 +99,7 @@ class Rows:
             parts.append(self.words(row, top))
         return "".join(parts)
 
-    def words(self, row: Row, top: int) -> str:
+    def words(self, row: lines.Row, top: int) -> str:
         """The statement; where it is shortened the whole one, if the pointer is on it."""
         shown = row_words(row, self.most)
         whole = "" if shown == visible(row.text) else f"<title>{escape(row.text)}</title>"

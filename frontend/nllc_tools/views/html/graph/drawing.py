@@ -10,13 +10,12 @@ from nllc_tools.base.walks import reached
 from nllc_tools.judge.chain_sentences import unwinds
 from nllc_tools.model.facts import Facts
 from nllc_tools.views.html.writing import text as escape
-from nllc_tools.views.html.graph import layout, lines
+from nllc_tools.views.html.graph import lines
 from nllc_tools.views.html.graph.boxes import (CELL, HEAD, LETTER, PAD, PITCH, ROW, Rows, columns, folded_cells, folded_size,
                                                room_for_words)
-from nllc_tools.views.html.graph.layout import Drawing, Shape, Size, Spot
+from nllc_tools.views.html.graph.layout import Drawing, Shape, Size, Spot, curves, place, shape_of
 from nllc_tools.views.html.graph.lines import Line
 from nllc_tools.views.html.graph.order import Edge
-from nllc_tools.views.html.graph.svg import curves, opening
 
 STUB = 14           # the length of a stub's arrow
 STUB_PITCH = 13     # from one stub to the next
@@ -36,7 +35,7 @@ class Graph:
 
     @cached_property
     def shape(self) -> Shape:
-        return layout.shape_of(len(self.lines), self.edges)
+        return shape_of(len(self.lines), self.edges)
 
     def ends(self, edge: Edge) -> str:
         """The points between which the edge goes."""
@@ -46,7 +45,7 @@ class Graph:
         """Where boxes of these sizes stand, with room for stubs beside them."""
         wide = STUB + LETTER * max(len(str(self.facts.points)), *map(len, self.facts.point_names.values()), 0)
         room = [wide if any(point in self.stubs for point in line) else 0 for line in self.lines]
-        return layout.place(self.shape, [size._replace(free=free) for size, free in zip(sizes, room)])
+        return place(self.shape, [size._replace(free=free) for size, free in zip(sizes, room)])
 
 
 class Arrow(NamedTuple):
@@ -109,7 +108,7 @@ def many(graph: Graph) -> tuple[str, dict[str, object]]:
     drawing = graph.placed(sizes)
     arrows = {edge: arrow(route, edge in graph.shape.turned) for edge, route in drawing.routes.items()}
     frames = "".join(f"M{x:.0f} {y:.0f}h{w:.0f}v{h:.0f}h-{w:.0f}z" for (x, y), (w, h, _) in zip(drawing.corners, sizes))
-    parts = [opening("folded many", drawing, LABEL), f'<path class="frame" d="{frames}"/>',
+    parts = [drawing.opening("folded many", LABEL), f'<path class="frame" d="{frames}"/>',
              '<path class="frame lit" d=""/><g class="edges">']
     for kind, is_turned in (("edge", False), ("edge back", True)):
         ways = "".join(one.way for edge, one in arrows.items() if (edge in graph.shape.turned) == is_turned)
@@ -141,7 +140,7 @@ def row_stubs(graph: Graph, box: Rows) -> str:
 
 def svg(name: str, graph: Graph, sizes: Sequence[Size], inside: Callable[[int], str]) -> str:
     drawing = graph.placed(sizes)
-    parts = [opening(name, drawing, LABEL), '<g class="edges">']
+    parts = [drawing.opening(name, LABEL), '<g class="edges">']
     parts += [edge_group(graph, edge, arrow(route, edge in graph.shape.turned), edge in graph.shape.turned)
               for edge, route in drawing.routes.items()]
     parts += [edge_group(graph, (box, box), loop(drawing.corners[box], sizes[box]), True)

@@ -10,7 +10,7 @@ from typing import Iterable, NamedTuple, Sequence
 
 from nllc_tools.base.grouping import grouped
 from nllc_tools.base.walks import reached
-from nllc_tools.views.html.graph.order import Edge, Table, neighbours, ordered, walk_in_depth
+from nllc_tools.views.html.graph.order import Edge, Table, neighbours, ordered, table_of, walk_in_depth
 
 GAP_X = 22
 GAP_Y = 28
@@ -60,11 +60,26 @@ class Drawing:
     corners: list[Spot]
     routes: dict[Edge, list[Spot]]
 
+    def opening(self, name: str, label: str) -> str:
+        """The element of SVG in which it stands."""
+        return (f'<svg class="graph {name}" viewBox="0 0 {self.width:.0f} {self.height:.0f}" '
+                f'width="{self.width:.0f}" height="{self.height:.0f}" role="group" aria-label="{label}">')
+
+
+def curves(route: Sequence[Spot], straight: float = 0) -> str:
+    """A smooth line down through a route; a part that goes less than so far aside is straight."""
+    path = []
+    for (x, y), (to_x, to_y) in zip(route, route[1:]):
+        bend = (to_y - y) / 2
+        path.append(f"V{to_y:.1f}" if abs(to_x - x) < straight else
+                    f"C{x:.1f} {y + bend:.1f} {to_x:.1f} {to_y - bend:.1f} {to_x:.1f} {to_y:.1f}")
+    return " ".join(path)
+
 
 def shape_of(boxes: int, edges: Iterable[Edge]) -> Shape:
     """The order of the boxes 0 to `boxes` - 1, which these distinct edges join."""
     edges = [edge for edge in edges if edge[0] != edge[1]]
-    turned = walk_in_depth(range(boxes), successors_of(boxes, edges).__getitem__).back
+    turned = walk_in_depth(range(boxes), table_of(boxes, edges).__getitem__).back
     down = [(b, a) if (a, b) in turned else (a, b) for a, b in edges]
     layer = layers_of(boxes, down)
     layers: list[list[int]] = [[] for _ in range(max(layer) + 1)]
@@ -81,16 +96,9 @@ def shape_of(boxes: int, edges: Iterable[Edge]) -> Shape:
     return Shape(boxes, ordered(layers, paths.values(), count), paths, turned)
 
 
-def successors_of(count: int, edges: Iterable[Edge]) -> list[list[int]]:
-    table: list[list[int]] = [[] for _ in range(count)]
-    for a, b in edges:
-        table[a].append(b)
-    return table
-
-
 def layers_of(boxes: int, down: list[Edge]) -> list[int]:
     """Each box one layer below the lowest that leads to it; roots just above what follows."""
-    after = successors_of(boxes, down)
+    after = table_of(boxes, down)
     layer = [0] * boxes
     for box in reversed(walk_in_depth(range(boxes), after.__getitem__).left):
         for b in after[box]:
@@ -103,7 +111,7 @@ def layers_of(boxes: int, down: list[Edge]) -> list[int]:
 
 def apart(boxes: int, down: list[Edge], layer: list[int]) -> list[int]:
     """The layers with all that hangs together with box 0 first, and the rest below it."""
-    beside = successors_of(boxes, [*down, *((b, a) for a, b in down)])
+    beside = table_of(boxes, [*down, *((b, a) for a, b in down)])
     first = reached([0], beside.__getitem__)
     depth = max(layer[box] for box in first) + 1
     return [at if box in first else at + depth for box, at in enumerate(layer)]
@@ -143,7 +151,9 @@ def middles(shape: Shape, sizes: Sequence[Size]) -> list[float]:
     offsets = [offsets_of([sizes[n] for n in layer]) for layer in shape.layers]
     for layer, its in zip(shape.layers, offsets):
         spread(layer, middle, its, [float(at) for at in range(len(layer))], [1.0] * len(layer))
-    downwards, upwards = ([(layer, its, [near[n] for n in layer], weights_of(layer, near, shape.boxes))
+    # The wish of a box counts less than an edge's, and one without neighbours little.
+    downwards, upwards = ([(layer, its, [near[n] for n in layer],
+                            [(1.0 if near[n] else 0.1) * (4.0 if n >= shape.boxes else 1.0) for n in layer])
                            for layer, its in zip(shape.layers, offsets)] for near in (above, below))
     sweeps = 0
     earlier: list[float] = []
@@ -157,11 +167,6 @@ def middles(shape: Shape, sizes: Sequence[Size]) -> list[float]:
             spread(layer, middle, its, wishes, weights)
     left = min(at - size.width / 2 for at, size in zip(middle, sizes))
     return [at - left + MARGIN for at in middle]
-
-
-def weights_of(layer: Iterable[int], near: Table, boxes: int) -> list[float]:
-    """How much the wish of each place counts: a box's less than an edge's, and one without neighbours little."""
-    return [(1.0 if near[n] else 0.1) * (4.0 if n >= boxes else 1.0) for n in layer]
 
 
 def offsets_of(sizes: Sequence[Size]) -> list[float]:

@@ -4,6 +4,7 @@ import re
 from typing import Iterable, NamedTuple, Sequence, Union
 
 from nllc_tools.model.facts import Facts
+from nllc_tools.views.html.graph.order import table_of
 
 # Statements of MIR that do nothing to a reference.
 MARK = re.compile(r"(?:StorageLive|StorageDead|FakeRead|PlaceMention|nop|Coverage)\b")
@@ -32,8 +33,9 @@ def straight_lines(successors: Sequence[Sequence[int]]) -> list[Line]:
 
     The lines stand in the order of their first points; the first one begins at point 0.
     """
+    predecessors = table_of(len(successors), ((after, point) for point, its in enumerate(successors) for after in its))
     begins = [point == 0 or len(before) != 1 or len(successors[before[0]]) != 1 or before == [point]
-              for point, before in enumerate(turned(successors))]
+              for point, before in enumerate(predecessors)]
     left = set(range(len(successors)))
     lines = []
     for point in sorted(left, key=lambda point: not begins[point]):     # one that begins none is on a circle without a way in
@@ -46,15 +48,6 @@ def straight_lines(successors: Sequence[Sequence[int]]) -> list[Line]:
                 point = after[0]
         lines += [line] if line else []
     return sorted(lines)
-
-
-def turned(successors: Sequence[Iterable[int]]) -> list[list[int]]:
-    """For each point those before it."""
-    predecessors: list[list[int]] = [[] for _ in successors]
-    for point, following in enumerate(successors):
-        for other in following:
-            predecessors[other].append(point)
-    return predecessors
 
 
 def rows(facts: Facts, line: Iterable[int]) -> list[Row]:

@@ -42,13 +42,16 @@ def walk_in_depth(roots: Iterable[int], after: Callable[[int], Iterable[int]]) -
 
 def neighbours(paths: Iterable[Sequence[int]], count: int) -> tuple[Table, Table]:
     """For each number those above it and those below it along the edges."""
-    above: list[list[int]] = [[] for _ in range(count)]
-    below: list[list[int]] = [[] for _ in range(count)]
-    for path in paths:
-        for a, b in zip(path, path[1:]):
-            below[a].append(b)
-            above[b].append(a)
-    return above, below
+    edges = [edge for path in paths for edge in zip(path, path[1:])]
+    return table_of(count, ((b, a) for a, b in edges)), table_of(count, edges)
+
+
+def table_of(count: int, edges: Iterable[Edge]) -> list[list[int]]:
+    """For each number those to which edges lead from it."""
+    table: list[list[int]] = [[] for _ in range(count)]
+    for a, b in edges:
+        table[a].append(b)
+    return table
 
 
 def ordered(layers: Table, paths: Iterable[Sequence[int]], count: int) -> list[list[int]]:

@@ -13,10 +13,8 @@ from nllc_tools.base.walks import reached
 from nllc_tools.judge import asking_statements, chain_sentences
 from nllc_tools.model.facts import ALL, Constraint, Facts
 from nllc_tools.views.html.writing import text
-from nllc_tools.views.html.graph import layout
-from nllc_tools.views.html.graph.layout import Size, Spot
+from nllc_tools.views.html.graph.layout import Size, Spot, curves, place, shape_of
 from nllc_tools.views.html.graph.order import walk_in_depth
-from nllc_tools.views.html.graph.svg import curves, opening
 
 LETTER = 6.95
 PAD = 8
@@ -136,8 +134,8 @@ def picture(facts: Facts, groups: list[list[int]], pairs: Pairs) -> str:
         for number, regions in enumerate(groups)]
     drawn += [label_of(facts, {pair: told[pair] for pair in its}) for its in arrows.values()]
     edges = [edge for number, (a, b) in enumerate(arrows, len(groups)) for edge in ((a, number), (number, b))]
-    drawing = layout.place(layout.shape_of(len(drawn), edges), [one.size() for one in drawn])
-    return "".join([opening("outlives", drawing, "which region must outlive which"),
+    drawing = place(shape_of(len(drawn), edges), [one.size() for one in drawn])
+    return "".join([drawing.opening("outlives", "which region must outlive which"),
                     *(arrow(route, edge[1] < len(groups)) for edge, route in drawing.routes.items()),
                     *(one.svg(corner) for one, corner in zip(drawn, drawing.corners)), "</svg>"])
 

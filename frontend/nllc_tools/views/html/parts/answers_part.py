@@ -5,7 +5,7 @@ from typing import Sequence
 from nllc_tools.base.sentences import plural
 from nllc_tools.judge.content import Content
 from nllc_tools.judge.findings.finding import Finding
-from nllc_tools.judge.two_answers import alone, counted, differing
+from nllc_tools.judge.verdicts import alone, differing, in_words
 from nllc_tools.views.html.writing import sentence, text
 
 
@@ -13,7 +13,7 @@ def both(content: Content) -> str:
     """The part of the page; nothing where there is no second answer."""
     if content.everywhere is None:
         return ""
-    rows = [row("answer", text(counted(content)), text(counted(content.everywhere)))]
+    rows = [row("answer", text(in_words(content)), text(in_words(content.everywhere)))]
     rows += [row(place_of(one), sentence(one.head), "–") for one in alone(content, content.everywhere)]
     rows += [row(place_of(one), "–", sentence(one.head)) for one in alone(content.everywhere, content)]
     return ('<section class="answers" aria-label="Both answers"><h2>Constraints from points on, or at all points</h2>'

@@ -18,6 +18,7 @@ from nllc_tools.judge.names import is_inner, lifetime_words
 from nllc_tools.model.chains import Step
 from nllc_tools.model.facts import ALL, Constraint, Facts
 from nllc_tools.model.region_names import end, tick
+from nllc_tools.texts.source import words_of
 from nllc_tools.views.html.writing import sentence, text
 
 MOST_LETTERS = 60   # of a line of the source; what is longer is cut
@@ -99,10 +100,7 @@ def step_line(content: Content, step: Step, before: Optional[Step]) -> str:
 
 def code_at(content: Content, number: int) -> str:
     """The words of a line of the source, without what is indented and said behind them."""
-    source = content.source
-    if source is None or not source.first <= number < source.first + len(source.lines):
-        return ""
-    code = source.lines[number - source.first].partition("//")[0].strip().removesuffix(";")
+    code = words_of(content.source, number).removesuffix(";")
     return code if len(code) <= MOST_LETTERS else code[:MOST_LETTERS - 1] + "…"
 
 

@@ -4,7 +4,7 @@ from itertools import groupby
 from typing import Iterable, NamedTuple, Optional, Sequence
 
 from nllc_tools.base.grouping import grouped
-from nllc_tools.base.sentences import plural
+from nllc_tools.base.sentences import plural, some
 from nllc_tools.judge import asking_statements
 from nllc_tools.judge.content import Content
 from nllc_tools.judge.labels import Label, labels_of
@@ -12,9 +12,9 @@ from nllc_tools.model.facts import Facts
 from nllc_tools.model.region_names import tick
 from nllc_tools.texts.source import Source, is_mir, pieces
 from nllc_tools.views.html.graph import lines
-from nllc_tools.views.html.graph.lines import Row
 from nllc_tools.views.html.writing import text
 
+MOST_NAMES = 4      # of regions, or of pairs of them, at a point
 MOST_IN_PART = 100  # rows, where no remark names blocks
 
 
@@ -22,7 +22,7 @@ class Block(NamedTuple):
     """Rows of points of one block."""
 
     name: str
-    rows: list[Row]
+    rows: list[lines.Row]
 
 
 def tabs(content: Content) -> str:
@@ -48,7 +48,7 @@ def source_list(content: Content, is_large: bool = False) -> str:
                    for number, line in enumerate(source.lines, source.first))
 
 
-def source_line(facts: Facts, number: int, code: str, rows: Sequence[Row], asks: bool, is_large: bool) -> str:
+def source_line(facts: Facts, number: int, code: str, rows: Sequence[lines.Row], asks: bool, is_large: bool) -> str:
     """A line of the source; with points it opens, and shows them."""
     begin = f'class="{"line asks" if asks else "line"}" id="line-{number}">'
     head = f'<span class="no">{number}</span>{strip(rows)}<code>{code}</code>'
@@ -58,7 +58,7 @@ def source_line(facts: Facts, number: int, code: str, rows: Sequence[Row], asks:
     return f'<details {begin}<summary>{head}</summary><div class="rows">{inside}</div></details>'
 
 
-def strip(rows: Sequence[Row]) -> str:
+def strip(rows: Sequence[lines.Row]) -> str:
     """A strip with a part for each point of a line."""
     points = [point for row in rows for point in row.points]
     parts = "".join(f'<i data-p="{point}"></i>' for point in points)
@@ -118,7 +118,7 @@ def place_mark(facts: Facts, point: int) -> str:
     return "" if line is None else f'<span class="at">line {line}</span>'
 
 
-def point_row(facts: Facts, row: Row, behind: str = "") -> str:
+def point_row(facts: Facts, row: lines.Row, behind: str = "") -> str:
     """The buttons of a statement's points, and its words; what stands behind them comes last."""
     buttons = "".join(f'<button type="button" class="point" data-p="{point}" tabindex="-1">{facts.point_name(point)}</button>'
                       for point in row.points)
@@ -127,7 +127,7 @@ def point_row(facts: Facts, row: Row, behind: str = "") -> str:
     return f'<div class="row"><span class="numbers">{buttons}</span>{words}{return_mark(facts, row)}{behind}</div>'
 
 
-def return_mark(facts: Facts, row: Row) -> str:
+def return_mark(facts: Facts, row: lines.Row) -> str:
     """Says that the function may return there, where the statement itself doesn't."""
     told = facts.remarks.point(row.points[0]).statement() in ("return", "resume")
     if told or facts.returns.isdisjoint(row.points):
@@ -139,13 +139,7 @@ def said_at(facts: Facts, point: int) -> str:
     """What the text says of a point whose statement it doesn't give."""
     asked = [f"({tick(facts, sup)}: {tick(facts, sub)})" for sup, sub in facts.asked.get(point, ())]
     live = [tick(facts, region) for region in facts.live.get(point, ())]
-    return ";  ".join(([some(asked)] if asked else []) + ([f"live: {some(live)}"] if live else []))
-
-
-def some(names: Sequence[str], most: int = 4) -> str:
-    """The first of the names, and how many more there are."""
-    more = f" and {len(names) - most} more" if len(names) > most else ""
-    return ", ".join(names[:most]) + more
+    return ";  ".join(([some(asked, MOST_NAMES)] if asked else []) + ([f"live: {some(live, MOST_NAMES)}"] if live else []))
 
 
 def end_list(facts: Facts) -> str:
