@@ -17,15 +17,16 @@ Every text depends on its arguments and its seed alone.
 All but those with `--into` write to standard output. Where names are given, only these texts are made.
 """
 
-import argparse
-import os
+import pathlib
 import random
 import sys
 
-from costly_mir import all_costly
-from limits_mir import LINES, hostile, limits, line
-from small_mir import VERSIONS, mutations, small
-from worked_mir import WORKED
+sys.path += [str(pathlib.Path(__file__).resolve().parents[1] / "reference")]
+
+from limits import LINES, MIR, costly, hostile, line, mir_limits  # noqa: E402 (what they need is in check/reference/)
+from making import main  # noqa: E402
+from small_mir import VERSIONS, mutations, small  # noqa: E402
+from text_tables import cases, filled  # noqa: E402
 
 # Big bodies
 
@@ -105,86 +106,33 @@ def body(points, variables, refused=False, seed=1):
 
 def ranges(points, variables):
     """One block in which each variable is defined and then read three points later."""
-    lines = [b"nll-mir 1"] + [b"region 'r%d" % v for v in range(1, variables)] + [b"let _0: int"]
-    lines += [b"let _%d: &'r%d int" % (v, v) for v in range(1, variables)]
-    lines += [b"blocks 1", b"block bb0"]
-    for at in range((points - 1) // 4):
-        v = 1 + at % (variables - 1)
-        lines += [b"_%d = &'r%d _0" % (v, v), b"nop", b"nop", b"read _%d.*" % v]
-    return b"\n".join(lines + [b"return", b"end", b""])
+    others = variables - 1
+    return filled(b"nll-mir 1\n{%d v*region 'r$[v + 1]\n}let _0: int\n{%d v*let _$[v + 1]: &'r$[v + 1] int\n}blocks 1\n"
+                  b"block bb0\n{%d p*_$[1 + p %% %d] = &'r$[1 + p %% %d] _0\nnop\nnop\nread _$[1 + p %% %d].*\n}"
+                  b"return\nend\n" % (others, others, (points - 1) // 4, others, others, others))
 
 
 def wide(regions, points):
     """One variable, which is live everywhere, with so many regions in its type."""
-    names = [b"'r%d" % r for r in range(regions)]
-    lines = [b"nll-mir 1"] + [b"region " + name for name in names]
-    lines += [b"struct S<" + b", ".join([name + b" +" for name in names]) + b"> ()"]
-    lines += [b"let _0: S<" + b", ".join(names) + b">", b"blocks 1", b"block bb0"]
-    return b"\n".join(lines + [b"nop"] * (points - 1) + [b"return", b"end", b""])
+    last = regions - 1
+    return filled(b"nll-mir 1\n{%d r*region 'r$r\n}struct S<{%d r*'r$r +, }'r%d +> ()\nlet _0: S<{%d r*'r$r, }'r%d>\n"
+                  b"blocks 1\nblock bb0\n{%d*nop\n}return\nend\n" % (regions, last, last, last, last, points - 1))
 
 
-# The words of the command line
-
-FOLDERS = {"worked": WORKED.items, "limits": limits, "hostile": hostile, "costly": all_costly}
-
-
-def save(directory, name, text):
-    os.makedirs(directory, exist_ok=True)
-    with open(os.path.join(directory, name + ".mir"), "wb") as file:
-        file.write(text)
-
-
-def words():
-    parser = argparse.ArgumentParser(description=__doc__.split("\n")[0])
-    commands = parser.add_subparsers(dest="command", required=True)
-    command = commands.add_parser("body")
-    command.add_argument("points", type=int)
-    command.add_argument("variables", type=int)
-    command.add_argument("--refused", action="store_true")
-    command.add_argument("--seed", type=int, default=1)
-    command = commands.add_parser("ranges")
-    command.add_argument("points", type=int)
-    command.add_argument("variables", type=int)
-    command = commands.add_parser("wide")
-    command.add_argument("regions", type=int)
-    command.add_argument("points", type=int)
-    command = commands.add_parser("line")
-    command.add_argument("kind", choices=sorted(LINES))
-    command.add_argument("mebibytes", type=int)
-    command = commands.add_parser("random")
-    command.add_argument("--seed", type=int, default=1)
-    command.add_argument("--version", type=str.encode, choices=VERSIONS)
-    command = commands.add_parser("mutations")
-    command.add_argument("file")
-    command.add_argument("--into", required=True)
-    for name in FOLDERS:
-        command = commands.add_parser(name)
-        command.add_argument("--into", required=True)
-        command.add_argument("names", nargs="*", metavar="NAME", help="make only these texts")
-    return parser.parse_args()
-
-
-def main():
-    args = words()
-    if args.command == "mutations":
-        with open(args.file, "rb") as file:
-            text = file.read()
-        for number, changed in enumerate(mutations(text)):
-            save(args.into, f"{number:06}", changed)
-    elif args.command in FOLDERS:
-        for name, text, *_ in FOLDERS[args.command]():
-            if not args.names or name in args.names:
-                save(args.into, name, text)
-    else:
-        made = {
-            "body": lambda: body(args.points, args.variables, args.refused, args.seed),
-            "ranges": lambda: ranges(args.points, args.variables),
-            "wide": lambda: wide(args.regions, args.points),
-            "line": lambda: line(args.kind, args.mebibytes),
-            "random": lambda: small(random.Random(args.seed), args.version),
-        }
-        sys.stdout.buffer.write(made[args.command]())
-
+SINGLE = {
+    "body": body,
+    "ranges": ranges,
+    "wide": wide,
+    "line": lambda kind, mebibytes: line(MIR, kind, mebibytes),
+    "random": lambda seed=1, version="": small(random.Random(seed), version.encode()),
+}
+FOLDERS = {
+    "worked": lambda: ((one.name, one.text) for one in cases("mir_worked") if one.answer in ("", "values", "check")),
+    "limits": mir_limits,
+    "hostile": hostile,
+    "costly": costly,
+}
 
 if __name__ == "__main__":
-    main()
+    main(__doc__, ".mir", SINGLE, FOLDERS, mutations, kind=sorted(LINES[MIR]),
+         version=[version.decode() for version in VERSIONS])

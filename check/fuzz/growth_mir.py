@@ -1,7 +1,5 @@
 """Makes one MIR text of given dimensions, so that each can be grown alone or beside another."""
 
-from limits_mir import text_of
-
 # Each dimension, and its size where it isn't grown.
 DIMENSIONS = {
     "universals": 2,      # universal regions, each known to outlive the next
@@ -87,4 +85,5 @@ def grown(**sizes):
     head += [b"region 'r%d" % k for k in range(d["regions"])]
     blocks = list(body(d))
     count = sum(line.startswith(b"block ") for line in blocks)
-    return text_of(*head, *struct_lines(d), *variable_lines(d), b"blocks %d" % count, *blocks, b"end")
+    lines = [b"nll-mir 1", *head, *struct_lines(d), *variable_lines(d), b"blocks %d" % count, *blocks, b"end", b""]
+    return b"\n".join(lines)
