@@ -14,14 +14,16 @@ Prints each run that ends otherwise than it should, and last `N runs, W wrong`; 
 import argparse
 import os
 import pathlib
-import resource
 import sys
 import tempfile
 
-from unstarted_threads import FAULT, PROGRAM, ROOT, TEXTS, VALUES, outcome
+from paths import PROGRAM, ROOT
+from running import ADDRESSES, Tally
+from text_tables import text_of
+from unstarted_threads import FAULT, TEXTS, VALUES, outcome
 
 MOST_BYTES = 1 << 26      # of a text
-MOST_MEMORY = 1 << 29     # of a run
+LITTLE_MEMORY = ((ADDRESSES, 1 << 29),)
 REPLAYED = (0, "1 done\nbalance 1\n" + VALUES[1], "")
 CHAIN, CUT, LOAD = TEXTS["chain"], TEXTS["two"], TEXTS["load"]
 JSON = '"name": "\'1", "is_universal": false'
@@ -75,43 +77,30 @@ LONG = {
 }
 
 
-def too_many_constraints():
-    """A MIR text of 520 assignments, each of 2,040 references whose regions all differ."""
-    regions = [f"'{letter}{number}" for letter in "xy" for number in range(2_040)]
-    types = [", ".join(f"&{region} int" for region in regions[at:at + 2_040]) for at in (0, 2_040)]
-    lines = ["nll-mir 1", *(f"region {region}" for region in regions), "let _0: int",
-             *(f"let _{number}: ({types[number - 1]})" for number in (1, 2)), "blocks 1", "block bb0",
-             *["_1 = copy _2"] * 520, "return", "end"]
-    return "\n".join(lines) + "\n"
-
-
 def write_files(folder):
-    texts = {**TEXTS, "syntax": "nll-facts 1\n\npoints one\n", "many": too_many_constraints()}
+    """Writes the texts, files of zeros, and a pipe."""
+    texts = {**TEXTS, "syntax": b"nll-facts 1\n\npoints one\n", "many": text_of("mir_limits", "constraints_past_limit")}
     for name, text in texts.items():
-        (folder / name).write_text(text)
+        (folder / name).write_bytes(text)
     for name, length in (("long", MOST_BYTES), ("longer", MOST_BYTES + 1), ("vast", 1 << 32)):
         (folder / name).touch()
         os.truncate(folder / name, length)
     os.mkfifo(folder / "never")
 
 
-def little_memory():
-    resource.setrlimit(resource.RLIMIT_AS, (MOST_MEMORY, MOST_MEMORY))
-
-
 def runs_of(program, folder, seconds):
     """Words, what came of each run, and what should."""
     for words, given, wanted in PIPED:
-        yield words, outcome(program, words, folder, seconds, None, given), wanted
+        yield words, outcome(program, words, folder, seconds, given=given), wanted
     for words, given, wanted in SCRIPT:
-        yield f"nllc.sh {words}", outcome(ROOT / "nllc.sh", words, folder, seconds, None, given), wanted
+        yield f"nllc.sh {words}", outcome(ROOT / "nllc.sh", words, folder, seconds, given=given), wanted
     for path in ("-", "/dev/stdin"):
-        status, out, err = outcome(ROOT / "nllc.sh", f"json {path}", folder, seconds, None, CHAIN)
+        status, out, err = outcome(ROOT / "nllc.sh", f"json {path}", folder, seconds, given=CHAIN)
         yield f"nllc.sh json {path}", (status, JSON in out, err), (0, True, "")
     for words, wanted in UNOPENED.items():
-        yield words, outcome(program, words, folder, seconds, None), wanted
+        yield words, outcome(program, words, folder, seconds), wanted
     for words, wanted in LONG.items():
-        yield words, outcome(program, words, folder, seconds, little_memory), wanted
+        yield words, outcome(program, words, folder, seconds, LITTLE_MEMORY), wanted
 
 
 def main():
@@ -121,16 +110,12 @@ def main():
     args = parser.parse_args()
     program = args.nllc.resolve()
     os.environ["NLLC"] = str(program)    # nllc.sh runs it
-    runs = wrong = 0
+    tally = Tally()
     with tempfile.TemporaryDirectory() as folder:
         write_files(pathlib.Path(folder))
         for words, told, wanted in runs_of(program, folder, args.seconds):
-            runs += 1
-            if told != wanted:
-                wrong += 1
-                print(f"{words}: {told!r} in place of {wanted!r}")
-    print(f"{runs} runs, {wrong} wrong")
-    return 1 if wrong else 0
+            tally.compare(words, told, wanted)
+    return tally.tell()
 
 
 if __name__ == "__main__":

@@ -14,24 +14,21 @@ Each run is made twice, with threads and without. Prints each that ends otherwis
 
 import argparse
 import pathlib
-import resource
-import subprocess
 import sys
 import tempfile
 
-ROOT = pathlib.Path(__file__).resolve().parents[1]
-PROGRAM = ROOT / "crates" / "nllc" / "out" / "nllc"
-NO_STACK = 1 << 60
+from paths import PROGRAM
+from running import STACK, Tally, run
+from text_tables import text_of
 
+NO_STACK = ((STACK, 1 << 60),)
 TEXTS = {
-    # Three regions with 'static.
-    "chain": "nll-facts 1\npoints 3\nregion '1\nregion '2\nnext 0 1\nnext 1 2\nreturn 2\n"
-             "base '1 1\nbase '1 2\nconstraint '2 '1 1\nend\n",
-    "fault": "nll-facts 1\npoints 2\nuniversal 'a\nuniversal 'b\nnext 0 1\nreturn 1\nconstraint 'a 'b 0\nend\n",
-    "one": "nll-cut 1\n0\n0\n0\n",
-    "two": "nll-cut 1\n1\n0\n1\n",
-    "short": "nll-cut 1\n0\n1\n",
-    "load": "nll-schedule 1\nload 0\n",
+    "chain": text_of("facts_worked", "region_takes_path"),    # three regions with 'static
+    "fault": text_of("facts_worked", "universal_fault"),
+    "one": b"nll-cut 1\n0\n0\n0\n",
+    "two": b"nll-cut 1\n1\n0\n1\n",
+    "short": b"nll-cut 1\n0\n1\n",
+    "load": b"nll-schedule 1\nload 0\n",
 }
 
 VALUES = (0, "'static: 0 1 2 end('static)\n'1: 1 2\n'2: 1 2\n", "")
@@ -70,18 +67,10 @@ REFUSED = {
 }
 
 
-def no_threads():
-    resource.setrlimit(resource.RLIMIT_STACK, (NO_STACK, NO_STACK))
-
-
-def outcome(program, words, folder, seconds, prepare, given=""):
-    """Status, standard output and standard error; standard input is a pipe with what is given."""
-    try:
-        done = subprocess.run([program, *words.split()], cwd=folder, input=given.encode(), capture_output=True,
-                              timeout=seconds, check=False, preexec_fn=prepare)
-    except subprocess.TimeoutExpired:
-        return "no answer in time", "", ""
-    return done.returncode, done.stdout.decode(errors="replace"), done.stderr.decode(errors="replace")
+def outcome(program, words, folder, seconds, limits=(), given=b""):
+    """Status, standard output and standard error of a run in a folder."""
+    status, out, err = run([program, *words.split()], seconds, limits, given=given, folder=folder)
+    return status, out.decode(errors="replace"), err.decode(errors="replace")
 
 
 def main():
@@ -92,19 +81,14 @@ def main():
     program = args.nllc.resolve()
     usual = {**BY_ONE, **BY_OWNERS, **REFUSED}
     alone = {**BY_ONE, **dict.fromkeys(BY_OWNERS, THREAD), **REFUSED}
-    runs = wrong = 0
+    tally = Tally()
     with tempfile.TemporaryDirectory() as folder:
         for name, text in TEXTS.items():
-            pathlib.Path(folder, name).write_text(text)
-        for known, prepare, how in ((usual, None, "threads"), (alone, no_threads, "no threads")):
+            pathlib.Path(folder, name).write_bytes(text)
+        for known, limits, how in ((usual, (), "threads"), (alone, NO_STACK, "no threads")):
             for words, wanted in known.items():
-                told = outcome(program, words, folder, args.seconds, prepare)
-                runs += 1
-                if told != wanted:
-                    wrong += 1
-                    print(f"{words}, with {how}: {told!r} in place of {wanted!r}")
-    print(f"{runs} runs, {wrong} wrong")
-    return 1 if wrong else 0
+                tally.compare(f"{words}, with {how}", outcome(program, words, folder, args.seconds, limits), wanted)
+    return tally.tell()
 
 
 if __name__ == "__main__":

@@ -5,11 +5,11 @@ import functools
 import multiprocessing
 import os
 import shlex
-import subprocess
 import tempfile
 from typing import NamedTuple
 
 from paths import BASELINE
+from running import run
 
 # Stands among words for the path of the text.
 FILE = "FILE"
@@ -25,11 +25,8 @@ class Difference(NamedTuple):
 
 def ended(words, seconds):
     """Standard output, status and standard error of a run of these words; one past the time has none."""
-    try:
-        done = subprocess.run(words, stdin=subprocess.DEVNULL, capture_output=True, timeout=seconds, check=False)
-    except subprocess.TimeoutExpired:
-        return b"", "no answer in time", b""
-    return done.stdout, done.returncode, done.stderr
+    status, out, err = run(words, seconds)
+    return out, status, err
 
 
 def memory_folder():
