@@ -3,15 +3,11 @@
 import collections
 import contextlib
 import io
-import pathlib
 import re
-import sys
 import unittest
 
-ROOT = pathlib.Path(__file__).resolve().parents[2]
-sys.path.insert(0, str(ROOT / "tools"))
-
-import definitions  # noqa: E402 (it stands in tools/)
+from support import ROOT
+import definitions
 
 # A line that begins a definition, at any depth; and one of a mutual block, which has lines that begin with its name.
 BEGUN = re.compile(r"^ *(?:abbrev (?:pub )?(?!mutual)|pub record |pub data )([^\s:(\[{]+)", re.M)

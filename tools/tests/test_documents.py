@@ -1,16 +1,13 @@
 """What documents show below a `$` is what the definitions give, by the slow programs of check/reference/."""
 
-import pathlib
 import re
 import subprocess
 import sys
 import unittest
 from concurrent.futures import ThreadPoolExecutor
 
-ROOT = pathlib.Path(__file__).resolve().parents[2]
-sys.path.insert(0, str(ROOT / "tools"))
-
-import definitions  # noqa: E402 (it stands in tools/)
+from support import ROOT
+import definitions
 
 DOCUMENTS = ["README.md", "docs/LEARNING.md"]
 ANSWER = re.compile(r"\./nllc\.sh (values|check) ")

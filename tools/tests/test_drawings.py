@@ -1,15 +1,11 @@
 """The drawings of docs/LEARNING.md are those that tools/drawings.py makes of the examples, and each is shown."""
 
-import pathlib
 import re
-import sys
 import unittest
 import xml.etree.ElementTree as tree
 
-ROOT = pathlib.Path(__file__).resolve().parents[2]
-sys.path.insert(0, str(ROOT / "tools"))
-
-import drawings  # noqa: E402 (it stands in tools/)
+from support import ROOT
+import drawings
 
 
 class Drawings(unittest.TestCase):

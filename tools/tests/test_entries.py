@@ -3,16 +3,13 @@
 import importlib.machinery
 import importlib.util
 import os
-import pathlib
 import subprocess
 import sys
 import tempfile
 import unittest
 from unittest import mock
 
-ROOT = pathlib.Path(__file__).resolve().parents[2]
-
-
+from support import ROOT
 def entry(path):
     """The script as a module; its name has no ending."""
     name = path.replace("/", "_")

@@ -1,12 +1,11 @@
 """Each script that a person starts says what it does, and does nothing else, when it's asked for help."""
 
 import os
-import pathlib
 import subprocess
 import tempfile
 import unittest
 
-ROOT = pathlib.Path(__file__).resolve().parents[2]
+from support import ROOT
 FOLDERS = ("tools", "frontend", "check", "bench", "bench/programs")
 # Those that a person doesn't start.
 OTHERS = {"frontend/cargo-nllc"}    # cargo starts it: `cargo nllc --help`

@@ -1,13 +1,10 @@
 """Names of definitions: each stands in one crate, so that a reader who looks one up finds one definition."""
 
 import collections
-import pathlib
-import sys
 import unittest
 
-sys.path.insert(0, str(pathlib.Path(__file__).resolve().parents[1]))
-
-import definitions  # noqa: E402
+import support  # noqa: F401 (it says where modules stand)
+import definitions
 
 
 # Words of `fixpoint` that `nll_owner` and `nll_run` say once more, of regions.

@@ -1,14 +1,10 @@
 """What docs/PROOF.md shows of definitions and contracts stands so in the crates, and its counts are the tool's."""
 
-import pathlib
 import re
-import sys
 import unittest
 
-ROOT = pathlib.Path(__file__).resolve().parents[2]
-sys.path.insert(0, str(ROOT / "tools"))
-
-import definitions  # noqa: E402 (it stands in tools/)
+from support import ROOT
+import definitions
 
 TEXT = (ROOT / "docs/PROOF.md").read_text()
 SHOWN = ("abbrev pub ", "pub record ", "pub fn ", "-- ")

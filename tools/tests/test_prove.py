@@ -3,22 +3,17 @@
 import contextlib
 import io
 import os
-import pathlib
 import shutil
 import signal
-import stat
 import subprocess
 import sys
-import tempfile
 import time
 import unittest
 import unittest.mock
 
-ROOT = pathlib.Path(__file__).resolve().parents[2]
-sys.path.insert(0, str(ROOT / "tools"))
-
-import prove  # noqa: E402 (it stands in tools/)
-import proving  # noqa: E402
+from support import ROOT, InRepository
+import prove
+import proving
 
 # An `rt` that proves libraries, and makes a program.
 PROVES = """#!/bin/sh
@@ -51,16 +46,12 @@ def is_running(number):
         return False
 
 
-class Proving(unittest.TestCase):
+class Proving(InRepository):
     def setUp(self):
-        self.folder = tempfile.TemporaryDirectory()
-        self.addCleanup(self.folder.cleanup)
-        self.root = pathlib.Path(self.folder.name) / "repository"
-        self.said = pathlib.Path(self.folder.name) / "said"
+        super().setUp()
         for file in ("low/src/lib.rt", "beside/src/lib.rt", "nllc/src/main.rt"):
-            (self.root / "crates" / file).parent.mkdir(parents=True)
-            (self.root / "crates" / file).write_text("fn main() {}\n")
-        (self.root / "crates.txt").write_text("low:\nbeside: low\nnllc: low\n")
+            self.write(f"crates/{file}", "fn main() {}\n")
+        self.write("crates.txt", "low:\nbeside: low\nnllc: low\n")
         (self.root / "tools").mkdir()
         for name in ("nllc.sh", "tools/prove.py", "tools/rooms.py", "tools/shares.py", "tools/proving.py", "tools/crates.py"):
             shutil.copy(ROOT / name, self.root / name)
@@ -74,15 +65,11 @@ class Proving(unittest.TestCase):
 
     def start(self, rt, *words):
         """Starts the script with this `rt`."""
-        file = pathlib.Path(self.folder.name) / "bin" / "rt"
-        file.parent.mkdir(exist_ok=True)
-        file.write_text(rt.format(said=self.said, root=self.root))
-        file.chmod(file.stat().st_mode | stat.S_IXUSR)
-        return self.script(f"{file.parent}:{os.environ['PATH']}", *words)
+        return self.script(self.path_with(rt), *words)
 
     def run_without_rt(self, *words):
         """The status where the PATH has no more than what the script needs beside `rt`."""
-        few = pathlib.Path(self.folder.name) / "few"
+        few = self.room / "few"
         few.mkdir()
         for name in ("dirname", "readlink", "find"):
             (few / name).symlink_to(shutil.which(name))

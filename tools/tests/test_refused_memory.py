@@ -4,14 +4,11 @@ import contextlib
 import io
 import pathlib
 import subprocess
-import sys
 import tempfile
 import unittest
 
-ROOT = pathlib.Path(__file__).resolve().parents[2]
-sys.path.append(str(ROOT / "check" / "refuse"))
-
-import rows  # noqa: E402 (it stands in check/refuse/)
+import support  # noqa: F401 (it says where modules stand)
+import rows
 
 # A program that asks for memory GROWTHS times. As `nllc` it ends at the first refusal; as a test it tries again.
 PROGRAM = r"""

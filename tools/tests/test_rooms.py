@@ -1,21 +1,14 @@
 """What a room has, and what comes back of it."""
 
-import pathlib
-import sys
-import tempfile
 import unittest
 
-ROOT = pathlib.Path(__file__).resolve().parents[2]
-sys.path.insert(0, str(ROOT / "tools"))
-
-import rooms  # noqa: E402 (it stands in tools/)
+from support import InRepository
+import rooms
 
 
-class Rooms(unittest.TestCase):
+class Rooms(InRepository):
     def setUp(self):
-        folder = tempfile.TemporaryDirectory()
-        self.addCleanup(folder.cleanup)
-        self.root = pathlib.Path(folder.name)
+        super().setUp()
         self.write("crates.txt", "low:\nhigh: low memchr\nbeside:  # apart\n")
         for name in ("low", "high", "beside"):
             self.write(f"crates/{name}/src/lib.rt", f"mod {name};\n")
@@ -25,10 +18,6 @@ class Rooms(unittest.TestCase):
             self.write(f"crates/{name}/out/incremental/found", name)
         self.room = rooms.Room(str(self.root), "high", ["low"])
         self.top = self.root / "out/rooms/high"
-
-    def write(self, path, text):
-        (self.root / path).parent.mkdir(parents=True, exist_ok=True)
-        (self.root / path).write_text(text)
 
     def files(self, folder):
         return sorted(str(path.relative_to(folder)) for path in folder.rglob("*") if path.is_file())

@@ -1,14 +1,11 @@
 """Which crates begin when, and with how many processes. The expected shares are reckoned by hand."""
 
 import pathlib
-import sys
 import tempfile
 import unittest
 
-ROOT = pathlib.Path(__file__).resolve().parents[2]
-sys.path.insert(0, str(ROOT / "tools"))
-
-from shares import ahead_of, at_once, lines_in, shares  # noqa: E402 (it stands in tools/)
+import support  # noqa: F401 (it says where modules stand)
+from shares import ahead_of, at_once, lines_in, shares
 
 AHEAD = {"long": 90, "middle": 50, "short": 20, "other": 10, "last": 5}
 

@@ -1,14 +1,11 @@
 """The tables that documents show of measurements are those of bench/results."""
 
 import pathlib
-import sys
 import tempfile
 import unittest
 
-ROOT = pathlib.Path(__file__).resolve().parents[2]
-sys.path.insert(0, str(ROOT / "bench"))
-
-import tables  # noqa: E402 (it stands in bench/)
+import support  # noqa: F401 (it says where modules stand)
+import tables
 
 
 class Tables(unittest.TestCase):

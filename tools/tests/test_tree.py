@@ -1,14 +1,10 @@
 """The tree of the crates: layers and their picture, documents that name each crate, lengths of lines."""
 
-import pathlib
 import re
-import sys
 import unittest
 
-ROOT = pathlib.Path(__file__).resolve().parents[2]
-sys.path.insert(0, str(ROOT / "tools"))
-
-from crates import uses_of  # noqa: E402 (the path stands above)
+from support import ROOT
+from crates import uses_of
 
 # Of lines, imports apart, by folder: what they end in, and how many columns they may have.
 COLUMNS = {"src": (".rt", 100), "specs": (".antt", 100), "proofs": (".antt", 120)}

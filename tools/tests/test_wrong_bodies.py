@@ -1,22 +1,12 @@
 """The wrong bodies of the gate and those beside them, and the tool that tries them."""
 
 import collections
-import contextlib
-import io
-import os
-import pathlib
 import re
-import stat
-import subprocess
-import sys
-import tempfile
 import unittest
 
-ROOT = pathlib.Path(__file__).resolve().parents[2]
-sys.path.insert(0, str(ROOT / "tools"))
-
-import definitions  # noqa: E402 (they stand in tools/)
-import wrong_bodies  # noqa: E402
+from support import ROOT, InRepository
+import definitions
+import wrong_bodies
 
 FOLDERS = sorted(folder for name in wrong_bodies.FOLDERS for folder in ROOT.glob(f"crates/*/{name}"))
 
@@ -96,11 +86,9 @@ class Edits(unittest.TestCase):
         self.assertEqual(len(names), len(set(names)))
 
 
-class Trying(unittest.TestCase):
+class Trying(InRepository):
     def setUp(self):
-        self.folder = tempfile.TemporaryDirectory()
-        self.addCleanup(self.folder.cleanup)
-        self.root = pathlib.Path(self.folder.name) / "repository"
+        super().setUp()
         self.write("crates.txt", "low:\nhigh: low\ntop: high\nbeside:\n")
         for crate in ("low", "high", "top", "beside"):
             self.write(f"crates/{crate}/src/lib.rt", SOURCE)
@@ -110,30 +98,9 @@ class Trying(unittest.TestCase):
                            "high/must-fail/gates": WRONG, "beside/must-fail/other": WRONG}.items():
             self.write(f"crates/{edit}.edit", text)
 
-    def write(self, path, text):
-        (self.root / path).parent.mkdir(parents=True, exist_ok=True)
-        (self.root / path).write_text(text)
-
-    def commit(self):
-        for words in ("init -q", "add -A", "-c user.name=a -c user.email=a@b commit -q -m a"):
-            subprocess.run(["git", "-C", str(self.root), *words.split()], check=True)
-
     def try_on(self, words, proves=0, jobs=1):
         """What the tool ends with, what `rt` was asked and saw, and what was printed."""
-        said, printed = pathlib.Path(self.folder.name) / "said", io.StringIO()
-        rt = pathlib.Path(self.folder.name) / "bin" / "rt"
-        rt.parent.mkdir(exist_ok=True)
-        said.write_text("")
-        rt.write_text(RT.format(said=str(said), proves=proves))
-        rt.chmod(rt.stat().st_mode | stat.S_IXUSR)
-        path = os.environ["PATH"]
-        os.environ["PATH"] = f"{rt.parent}:{path}"
-        try:
-            with contextlib.redirect_stdout(printed), contextlib.redirect_stderr(printed):
-                ended = wrong_bodies.main([*words, "--jobs", str(jobs)], self.root)
-        finally:
-            os.environ["PATH"] = path
-        return ended, said.read_text(), printed.getvalue()
+        return self.ended(wrong_bodies.main, [*words, "--jobs", str(jobs)], RT, proves=proves)
 
     def tried(self, words):
         """The edits that are tried, by what is printed."""
