@@ -18,53 +18,24 @@ import sys
 import tempfile
 
 from paths import PROGRAM
-from running import STACK, Tally, run
-from text_tables import text_of
+from running import STACK, UNSTARTED, Tally, run
+from text_tables import lines_of, text_of
 
 NO_STACK = ((STACK, 1 << 60),)
-TEXTS = {
-    "chain": text_of("facts_worked", "region_takes_path"),    # three regions with 'static
-    "fault": text_of("facts_worked", "universal_fault"),
-    "one": b"nll-cut 1\n0\n0\n0\n",
-    "two": b"nll-cut 1\n1\n0\n1\n",
-    "short": b"nll-cut 1\n0\n1\n",
-    "load": b"nll-schedule 1\nload 0\n",
-}
+TEXTS = {name: text_of("runs", name) for name in ("chain", "fault", "one", "two", "short", "load")}
+# What the program ends with and says on standard error, beside what it prints.
+ANSWERS = {"values of chain": (0, ""), "a fault": (1, ""), "a replay of chain": (0, ""), "three checks": (1, ""),
+           "values of chain beside a syntax error": (2, "syntax: nllc: line 3: syntax\n")}
 
-VALUES = (0, "'static: 0 1 2 end('static)\n'1: 1 2\n'2: 1 2\n", "")
-FAULT = (1, "fault 'a must outlive 'b\n", "")
-THREAD = (3, "", "nllc: thread\n")
 
-# Words that ask for no owners in threads, and what the program does with them.
-BY_ONE = {
-    "values chain": VALUES,
-    "check fault": FAULT,
-    "values chain --deal blocks": VALUES,
-    "values chain --mail ring": VALUES,
-    # Owners of a replay are in one thread.
-    "replay chain --schedule load": (0, "1 done\nbalance 1\n" + VALUES[1], ""),
-}
-
-# Words that ask for them.
-BY_OWNERS = {
-    "values chain --owners 1": VALUES,
-    "values chain --owners 2": VALUES,
-    "values chain --owners 64": VALUES,
-    "values chain --owners 2 --deal blocks": VALUES,
-    "values chain --owners 2 --mail ring": VALUES,
-    "values chain --cut one": VALUES,
-    "values chain --owners 2 --cut two": VALUES,
-    "check fault --owners 2": FAULT,
-    "check fault --cut one --mail ring": FAULT,
-}
-
-# Words that are refused before a thread is started.
-REFUSED = {
-    "values missing --owners 2": (2, "", "nllc: cannot read missing\n"),
-    "values chain --cut missing": (2, "", "nllc: cannot read missing\n"),
-    "check chain --owners 2 --cut short": (2, "", "nllc: cut: length\n"),
-    "check chain --cut two": (2, "", "nllc: cut: no such owner at 0\n"),
-}
+def runs_in(name):
+    """The words of each run of a list, what its standard input gives, and what it answers."""
+    for line in lines_of("runs", name):
+        asked, _, answer = line.decode().partition(" => ")
+        words, _, given = asked.partition(" < ")
+        status, err = ANSWERS.get(answer, (2, f"{answer}\n"))
+        out = text_of("runs", answer).decode() if answer in ANSWERS else ""
+        yield words, TEXTS.get(given, b""), (status, out, err)
 
 
 def outcome(program, words, folder, seconds, limits=(), given=b""):
@@ -79,15 +50,15 @@ def main():
     parser.add_argument("--nllc", metavar="PATH", default=PROGRAM, type=pathlib.Path)
     args = parser.parse_args()
     program = args.nllc.resolve()
-    usual = {**BY_ONE, **BY_OWNERS, **REFUSED}
-    alone = {**BY_ONE, **dict.fromkeys(BY_OWNERS, THREAD), **REFUSED}
-    tally = Tally()
+    tally, unstarted = Tally(), (3, "", UNSTARTED[2].decode())
     with tempfile.TemporaryDirectory() as folder:
         for name, text in TEXTS.items():
             pathlib.Path(folder, name).write_bytes(text)
-        for known, limits, how in ((usual, (), "threads"), (alone, NO_STACK, "no threads")):
-            for words, wanted in known.items():
-                tally.compare(f"{words}, with {how}", outcome(program, words, folder, args.seconds, limits), wanted)
+        for limits, how in (((), "threads"), (NO_STACK, "no threads")):
+            for name in ("by one", "by owners", "refused"):
+                for words, _, wanted in runs_in(name):
+                    wanted = unstarted if limits and name == "by owners" else wanted
+                    tally.compare(f"{words}, with {how}", outcome(program, words, folder, args.seconds, limits), wanted)
     return tally.tell()
 
 

@@ -8,7 +8,6 @@ refused. The seconds are those of `check`, less those of the refused text: best 
 which the programs take turns. Arguments may follow PATH.
 """
 
-import argparse
 import filecmp
 import math
 import os

@@ -1,7 +1,7 @@
 """Reads tables of texts: worked ones, those at the limits, and costly ones, which stand in tables/ next to this file.
 
     = NAME: ANSWER       a text and what is said of it, `ok` or its refusal; or a command, whose lines begin with `> `
-    of NAME              it begins as another text of the tables does, or as a file of examples/ without its remarks
+    of NAME              it begins as another text does, of this table or TABLE/NAME, or as a file of examples/ without its remarks
     | TEXT               a line; `. TEXT` has no line feed
     12 i| TEXT           a line twelve times; `$i` is which time it is, from 0 on, `$[i + 1]` what is computed of it
     3: | TEXT            stands in the place of line 3 of the other text, `3+ | TEXT` behind it; what follows comes behind that
@@ -76,6 +76,7 @@ def blocks(table):
 @functools.lru_cache(maxsize=2)
 def text_of(table, name):
     """The first text of this name in a table, or that of a file of examples/ without its remarks."""
+    table, name = name.split("/") if "/" in name else (table, name)
     found = [lines for called, _, lines in blocks(table) if called == name]
     if not found:
         return re.sub(rb"^#.*\n", b"", (EXAMPLES / name).read_bytes(), flags=re.M)

@@ -86,7 +86,7 @@ class Table(unittest.TestCase):
 
 class Budget(unittest.TestCase):
     def test_each_crate_has_one(self):
-        crates = [crate for names in gate_minutes.layers().values() for crate in names]
+        crates = [crate for _, _, names in gate_minutes.layers_of(ROOT) for crate in names]
         self.assertEqual(sorted(gate_minutes.budgets()), sorted(crates))
 
     def test_the_gates_document_has_that_of_each_layer(self):

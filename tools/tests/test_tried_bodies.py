@@ -38,7 +38,7 @@ class Edits(unittest.TestCase):
         self.assertTrue(edits)
         for name, edit in edits.items():
             texts = {}
-            for path, old, new in edit.changes:
+            for path, old, new in edit.pairs:
                 file = ROOT / "crates" / edit.crate / path
                 text = texts.setdefault(file, file.read_text())
                 self.assertEqual(text.count(old), 1, f"{name}: {old}")
@@ -50,9 +50,8 @@ class Edits(unittest.TestCase):
                 self.assertIn(test, re.findall(tried_bodies.TEST, source.read_text()), name)
 
     def test_a_text_goes_on_behind_a_bar(self):
-        lines = ["file: a", "old: one", "|   two", "new:", "| three", "|four", "old: five", "new: six"]
-        self.assertEqual(tried_bodies.changes_of(lines),
-                         [["a", "one\n  two", "\nthree\nfour"], ["a", "five", "six"]])
+        text = "file: a\nold: one\n|   two\nnew:\n| three\n|four\nold: five\nnew: six\n"
+        self.assertEqual(tried_bodies.pairs_in(text), (("a", "one\n  two", "\nthree\nfour"), ("a", "five", "six")))
 
 
 class Trying(InRepository):
