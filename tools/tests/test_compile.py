@@ -10,6 +10,7 @@ import time
 import unittest
 
 from support import ROOT, InRepository
+
 PROGRAM = '#!/bin/sh\\necho "answers $*"\\n'
 # An `rt` that makes a program and has it read the pipe, as `rt try` does, with a helper in a session of its own.
 RT = f"""#!/bin/sh
@@ -174,12 +175,6 @@ class Compiling(InRepository):
         program = self.root / "out/nllc-unproved"
         self.assertEqual(lines, {"nllc,": "commit unknown", "program:": f"{program}, which isn't proved", "kit:": "a kit",
                                  "sha256:": hashlib.sha256(program.read_bytes()).hexdigest()})
-
-    def test_help(self):
-        done = subprocess.run([str(ROOT / "tools/compile_unproved.py"), "--help"], capture_output=True, text=True,
-                              check=False)
-        self.assertEqual((done.returncode, done.stderr), (0, ""))
-        self.assertIn("Compiles a program without proofs", done.stdout)
 
 
 if __name__ == "__main__":

@@ -25,6 +25,7 @@ exit 1
 # Runs the tool on another repository, looks more often, and tells which processes it has seen at work.
 MAIN = """
 import pathlib, sys, gate_minutes, processes
+
 look, root = processes.Watch.look, pathlib.Path(sys.argv[1])
 
 def look_and_tell(watch):

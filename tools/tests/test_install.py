@@ -10,6 +10,7 @@ import tempfile
 import unittest
 
 from support import ROOT
+
 EXAMPLES = ROOT / "examples"
 # Where the proved programs are; here they are the slow programs from the definitions.
 PROGRAMS = {"crates/nllc/out/nllc": "reference.py",

@@ -8,6 +8,7 @@ import tempfile
 import unittest
 
 from support import ROOT
+
 DOCUMENTS = ("README.md", "docs/LEARNING.md", "docs/PROOF.md")
 SCRIPTS = ("frontend", "tools", "check", "bench")
 MOST_WORDS = 30

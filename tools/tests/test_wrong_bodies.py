@@ -17,6 +17,7 @@ OF_STD = {"and", "from_gives", "steps"}
 # An `rt` that writes down what it's asked and sees, and proves the functions that return a number.
 RT = """#!/usr/bin/env python3
 import os, pathlib, re, sys
+
 said = open({said!r}, "a")
 print(*sys.argv[1:], "in", os.path.basename(os.getcwd()), file=said)
 if sys.argv[1] == "all":
@@ -37,22 +38,15 @@ OTHER = "file: src/lib.rt\nold: 2\nnew: two\n"
 NOT_WRONG = "file: src/lib.rt\nold: 1\nnew: 3\n"
 
 
-def pairs_of(edit):
-    """The file that an edit changes, and its texts to be found there."""
-    file = re.search(r"^file: (.*)$", edit.read_text(), re.M)[1]
-    return file, re.findall(r"^old: (.*)$", edit.read_text(), re.M)
-
-
 class Edits(unittest.TestCase):
     def test_each_can_be_applied(self):
         for folder in FOLDERS:
             self.assertTrue(list(folder.glob("*.edit")), folder)
             for edit in folder.glob("*.edit"):
-                file, olds = pairs_of(edit)
-                text = (folder.parent / file).read_text()
-                self.assertTrue(olds, edit)
-                for old in olds:
-                    self.assertEqual(text.count(old), 1, f"{edit}: {old}")
+                pairs = wrong_bodies.read_edit(folder.parent.name, edit).pairs
+                self.assertTrue(pairs, edit)
+                for file, old, _ in pairs:
+                    self.assertEqual((folder.parent / file).read_text().count(old), 1, f"{edit}: {old}")
 
     def test_each_says_what_is_wrong_and_what_refuses_it(self):
         silent = [str(edit.relative_to(ROOT)) for folder in FOLDERS for edit in folder.glob("*.edit")
