@@ -4,6 +4,7 @@ import contextlib
 import io
 import os
 import pathlib
+import signal
 import subprocess
 import sys
 import tempfile
@@ -12,6 +13,20 @@ from unittest import mock
 
 ROOT = pathlib.Path(__file__).resolve().parents[2]
 sys.path[:0] = [str(ROOT / folder) for folder in ("tools", "bench", "check/refuse")]
+
+
+def hear_the_end():
+    """Has a run hear that it's to end, also where these tests don't, as under `nohup`."""
+    for number in (signal.SIGHUP, signal.SIGINT):
+        signal.signal(number, signal.SIG_DFL)
+
+
+def printed(main, *words):
+    """The status of a tool's `main`, and what it printed on both streams."""
+    out, err = io.StringIO(), io.StringIO()
+    with contextlib.redirect_stdout(out), contextlib.redirect_stderr(err):
+        status = main(*words)
+    return status, out.getvalue(), err.getvalue()
 
 
 class InRepository(unittest.TestCase):
@@ -40,11 +55,15 @@ class InRepository(unittest.TestCase):
         file.chmod(0o755)
         return f"{file.parent}:{os.environ['PATH']}"
 
+    def start(self, path, *words, **more):
+        """Starts nllc.sh of the repository with this PATH."""
+        return subprocess.Popen([str(self.root / "nllc.sh"), *words], stdin=subprocess.DEVNULL, stdout=subprocess.PIPE,
+                                text=True, env={**os.environ, "PATH": path, "NLLC": ""}, preexec_fn=hear_the_end,
+                                **{"stderr": subprocess.PIPE, **more})
+
     def ended(self, main, words, rt, **known):
         """What a tool's `main` ends with in the repository, what its `rt` was asked, and what was printed."""
-        printed = io.StringIO()
         self.said.write_text("")
-        with mock.patch.dict(os.environ, {"PATH": self.path_with(rt, **known)}), \
-                contextlib.redirect_stdout(printed), contextlib.redirect_stderr(printed):
-            status = main(words, self.root)
-        return status, self.said.read_text(), printed.getvalue()
+        with mock.patch.dict(os.environ, {"PATH": self.path_with(rt, **known)}):
+            status, out, err = printed(main, words, self.root)
+        return status, self.said.read_text(), out + err

@@ -27,11 +27,6 @@ FAILS = "#!/bin/sh\necho \"$*\" >> {said}\nsleep {seconds}; exit 1\n"
 WAITS = "nllc.sh: another run compiles; waiting for it\n"
 
 
-def hears_the_end():
-    """A run hears that its terminal is gone, also where these tests don't, as under `nohup`."""
-    signal.signal(signal.SIGHUP, signal.SIG_DFL)
-
-
 class Compiling(InRepository):
     def setUp(self):
         super().setUp()
@@ -46,11 +41,6 @@ class Compiling(InRepository):
         """The PATH with this `rt`."""
         self.number = f"{os.getpid()}{time.monotonic_ns()}"
         return self.path_with(text, seconds=seconds, number=self.number)
-
-    def start(self, path, *words, **more):
-        return subprocess.Popen([str(self.root / "nllc.sh"), *words], stdin=subprocess.DEVNULL, stdout=subprocess.PIPE,
-                                text=True, env={**os.environ, "PATH": path, "NLLC": ""}, preexec_fn=hears_the_end,
-                                **{"stderr": subprocess.PIPE, **more})
 
     def compiles(self):
         return len(self.said.read_text().splitlines()) if self.said.exists() else 0

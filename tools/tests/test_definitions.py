@@ -1,11 +1,10 @@
 """Each definition of specs/ has its comment and stands in one crate, and tools/definitions.py finds it and what it stands on."""
 
 import collections
-import contextlib
-import io
 import re
 import unittest
 
+import support
 from support import ROOT
 import definitions
 
@@ -21,10 +20,7 @@ OTHERS = ("AreSound ComesNext ComesTo Finishes IsClosed IsCounted IsNew IsOf IsT
 
 
 def printed(*words):
-    out, err = io.StringIO(), io.StringIO()
-    with contextlib.redirect_stdout(out), contextlib.redirect_stderr(err):
-        status = definitions.main(list(words))
-    return status, out.getvalue(), err.getvalue()
+    return support.printed(definitions.main, list(words))
 
 
 def is_lemma(crate, file, name):

@@ -27,19 +27,15 @@ MOST_APART = 0.05       # of counts, which change with each definition
 def shown(document):
     """The commands of a document that ask for an answer, each with the lines shown below it."""
     command, lines = None, []
-    for line in (ROOT / document).read_text().splitlines():
-        if line.startswith("    $ "):
-            if command:
-                yield command, lines
+    for line in [*(ROOT / document).read_text().splitlines(), ""]:
+        is_command = line.startswith("    $ ")
+        if command and (is_command or not line.startswith("    ")):
+            yield command, lines
+            command = None
+        if is_command:
             command, lines = line[6:], []
-        elif line.startswith("    "):
-            lines.append(line[4:])
         else:
-            if command:
-                yield command, lines
-            command, lines = None, []
-    if command:
-        yield command, lines
+            lines.append(line[4:])
 
 
 def answered(command):
@@ -138,7 +134,6 @@ class Documents(unittest.TestCase):
                 self.assertTrue((ROOT / name).is_file(), f"{path}: {name}")
             for link in set(linked):
                 self.assertTrue((path.parent / link).exists(), f"{path}: {link}")
-
 
     def test_contents(self):
         """A document of more than 3,000 words begins with its headings, and links to headings lead to one."""

@@ -32,6 +32,17 @@ def run(*words, **environment):
                           env=os.environ | environment)
 
 
+def check_names(test, script, names):
+    """Its help has each name, and where no name of these is given it prints the same and ends with 2."""
+    done = run(script, "--help")
+    test.assertEqual((done.returncode, done.stderr), (0, ""))
+    test.assertEqual([name for name in names if f"\n    {name} " not in done.stdout], [])
+    for words in ((), ("none",)):
+        done = run(script, *words)
+        test.assertEqual((done.returncode, done.stdout), (2, ""))
+        test.assertIn(f"{script} NAME", done.stderr)
+
+
 class Checks(unittest.TestCase):
     def setUp(self):
         self.entry = entry("check/run")
@@ -53,13 +64,7 @@ class Checks(unittest.TestCase):
             self.assertEqual(self.entry.command_of("model", ["--count", "3"])[2:], ["--model", "--count", "3"])
 
     def test_words(self):
-        done = run("check/run", "--help")
-        self.assertEqual((done.returncode, done.stderr), (0, ""))
-        self.assertEqual([name for name in self.entry.CHECKS if f"\n    {name} " not in done.stdout], [])
-        for words in ((), ("none",)):
-            done = run("check/run", *words)
-            self.assertEqual((done.returncode, done.stdout), (2, ""))
-            self.assertIn("check/run NAME", done.stderr)
+        check_names(self, "check/run", self.entry.CHECKS)
         done = run("check/run", "memory", NLLC="/none")
         self.assertEqual((done.returncode, done.stdout), (2, ""))
         self.assertIn("no program at /none", done.stderr)
@@ -98,10 +103,7 @@ class Measurements(unittest.TestCase):
                          ["--program", "P", "--runs", "1"])
 
     def test_words(self):
-        done = run("bench/run", "--help")
-        self.assertEqual((done.returncode, done.stderr), (0, ""))
-        self.assertEqual([name for name in self.entry.MEASUREMENTS if f"\n    {name} " not in done.stdout], [])
-        self.assertEqual(run("bench/run", "none").returncode, 2)
+        check_names(self, "bench/run", self.entry.MEASUREMENTS)
         self.assertEqual(run("bench/run", "line", NLLC="/none").returncode, 2)
 
 

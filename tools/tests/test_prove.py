@@ -1,6 +1,5 @@
 """How `nllc.sh --prove` proves, tells how far it is, and ends; and what reads the lines of `rt all`."""
 
-import contextlib
 import io
 import os
 import shutil
@@ -11,7 +10,7 @@ import time
 import unittest
 import unittest.mock
 
-from support import ROOT, InRepository
+from support import ROOT, InRepository, printed
 import prove
 import proving
 
@@ -56,16 +55,9 @@ class Proving(InRepository):
         for name in ("nllc.sh", "tools/prove.py", "tools/rooms.py", "tools/shares.py", "tools/proving.py", "tools/crates.py"):
             shutil.copy(ROOT / name, self.root / name)
 
-    def script(self, path, *words):
-        """Starts the script of a small repository with this PATH."""
-        return subprocess.Popen([str(self.root / "nllc.sh"), *words], stdout=subprocess.PIPE, text=True,
-                                stderr=subprocess.PIPE, start_new_session=True,
-                                preexec_fn=lambda: signal.signal(signal.SIGINT, signal.SIG_DFL),
-                                env={**os.environ, "PATH": path, "NLLC": ""})
-
-    def start(self, rt, *words):
+    def start_with(self, rt, *words):
         """Starts the script with this `rt`."""
-        return self.script(self.path_with(rt), *words)
+        return self.start(self.path_with(rt), *words, start_new_session=True)
 
     def run_without_rt(self, *words):
         """The status where the PATH has no more than what the script needs beside `rt`."""
@@ -73,12 +65,12 @@ class Proving(InRepository):
         few.mkdir()
         for name in ("dirname", "readlink", "find"):
             (few / name).symlink_to(shutil.which(name))
-        running = self.script(str(few), *words)
+        running = self.start(str(few), *words, start_new_session=True)
         running.communicate(timeout=300)
         return running.returncode
 
     def run_with(self, rt, *words):
-        running = self.start(rt, *words)
+        running = self.start_with(rt, *words)
         out, told = running.communicate(timeout=300)
         return running.returncode, out, told.replace(str(self.root), "")
 
@@ -130,12 +122,9 @@ class Proving(InRepository):
         self.assertEqual(told.count("1 of 2 proved: low"), 1, told)
 
     def test_a_crate_is_told_once(self):
-        said = io.StringIO()
         progress = prove.Progress(2)
-        with contextlib.redirect_stderr(said):
-            for crate in ("low", "low", "nllc"):
-                progress.told(crate)
-        self.assertEqual(said.getvalue(), "nllc.sh: 1 of 2 proved: low\nnllc.sh: 2 of 2 proved: nllc\n")
+        _, _, said = printed(lambda: [progress.told(crate) for crate in ("low", "low", "nllc")])
+        self.assertEqual(said, "nllc.sh: 1 of 2 proved: low\nnllc.sh: 2 of 2 proved: nllc\n")
 
     def test_after_a_killed_check_half_as_many_run_at_a_time(self):
         numbers = []
@@ -151,7 +140,7 @@ class Proving(InRepository):
     def test_a_signal_ends_it_and_rt(self):
         for number, status in ((signal.SIGINT, 130), (signal.SIGTERM, 143)):
             self.said.unlink(missing_ok=True)
-            running = self.start(WAITS, "--prove")
+            running = self.start_with(WAITS, "--prove")
             while not (self.said.exists() and self.said.read_text().strip()):
                 time.sleep(0.02)
             os.kill(running.pid, number)

@@ -112,7 +112,6 @@ class Reading(unittest.TestCase):
                 found = [path.read_text() for path in (ROOT / "crates").glob(f"*/src/{file}")]
                 self.assertTrue(any(re.search(rf"\bfn {call}\b", one) for one in found))
 
-
     def test_links_of_the_walks(self):
         """A file that is named is linked, to a file of that name; a call that is named with it stands there."""
         text = re.sub(r"\s+", " ", self.text)
