@@ -36,35 +36,24 @@ USER = 54321
 OWNERS = 8
 
 
-def few_processes(tally, command, usual, seconds):
-    """How many threads were refused to a user with ever more processes."""
+# What there is little of or much, in which unit, how much of it, and for which user.
+HELD_BACK = {
+    "{} processes": (PROCESSES, 1, range(1, OWNERS + 3), USER),
+    "a stack of {} KiB": (STACK, KIB, (256, 512, 1024, 1 << 30, 1 << 36), None),
+    "{} KiB to address": (ADDRESSES, KIB, (*range(2048, 16384, 512), *range(16384, 131072, 8192)), None),
+}
+
+
+def held_back(tally, command, usual, seconds):
+    """How many runs were refused a thread for want of processes or of room for its stack."""
     refused = 0
-    for most in range(1, OWNERS + 3):
-        answer = run(command, seconds, [(PROCESSES, most)], USER)
-        refused += answer == UNSTARTED
-        tally.judge(answer in (usual, UNSTARTED), f"{most} processes", answer)
-    return refused
-
-
-def stacks(tally, command, usual, seconds):
-    """How many runs were refused a thread for want of room for its stack."""
-    refused = 0
-    for kib in (256, 512, 1024, 1 << 30, 1 << 36):
-        answer = run(command, seconds, [(STACK, kib * KIB)])
-        refused += answer == UNSTARTED
-        tally.judge(answer in (usual, UNSTARTED), f"a stack of {kib} KiB", answer)
-    return refused
-
-
-def little_memory(tally, command, usual, seconds):
-    """How many runs were refused memory, where there are so many KiB to address."""
-    refused = 0
-    for kib in [*range(2048, 16384, 512), *range(16384, 131072, 8192)]:
-        answer = run(command, seconds, [(ADDRESSES, kib * KIB)])
-        is_loaded = answer[0] != 127
-        refused += answer in (MEMORY, UNSTARTED)
-        if is_loaded:
-            tally.judge(answer in (usual, MEMORY, UNSTARTED), f"{kib} KiB to address", answer)
+    for what, (kind, unit, amounts, user) in HELD_BACK.items():
+        right = (usual, UNSTARTED, *[MEMORY] * (kind == ADDRESSES))
+        for amount in amounts if user is None or os.geteuid() == 0 else ():
+            answer = run(command, seconds, [(kind, amount * unit)], user)
+            refused += answer == UNSTARTED and kind != ADDRESSES
+            if kind != ADDRESSES or answer[0] != 127:    # else it can't even be loaded
+                tally.judge(answer in right, what.format(amount), answer)
     return refused
 
 
@@ -106,10 +95,7 @@ def try_file(tally, program, path, seconds, folder):
     refused = 0
     for mail in ("queue", "ring"):
         owners = [program, "values", "--owners", str(OWNERS), "--mail", mail, path]
-        if os.geteuid() == 0:
-            refused += few_processes(tally, owners, usual, seconds)
-        refused += stacks(tally, owners, usual, seconds)
-        little_memory(tally, owners, usual, seconds)
+        refused += held_back(tally, owners, usual, seconds)
         full_files(tally, owners, usual, seconds, folder)
     closed_streams(tally, plain, usual, seconds)
     print(f"{os.path.basename(path)}: {tally.runs} runs so far, {refused} threads refused, "

@@ -13,7 +13,7 @@ import sys
 import tempfile
 from collections import Counter
 
-from timing import end, groups_of, head, machine, numbers_in, options, row, run
+from timing import Failed, end, ended, groups_of, head, machine, numbers_in, options, row
 
 # The most seconds, and MiB of the whole process, for 64 owners of the family `full`.
 LIMITS = ("full", 64, 3.0, 400.0)
@@ -21,13 +21,10 @@ LIMITS = ("full", 64, 3.0, 400.0)
 COLUMNS = "text | owners | solver s | grown | received | owners s | bar s | met | partner s | ratio | peak MiB"
 
 
-def told(command, seconds, out):
-    """What a run tells, as numbers by their names, and its peak; None where it doesn't end well."""
-    found = run(command, seconds, out)
-    if found.status != 0:
-        print(f"{' '.join(command)}: status {found.status} {found.err}", file=sys.stderr)
-        return None
-    return {"peak": found.peak, **numbers_in(out)}
+def told(args, command):
+    """What a run tells, as numbers by their names, and its peak."""
+    found = ended(command, args.seconds, (0,), args.out)
+    return {"peak": found.peak, **numbers_in(args.out)}
 
 
 def seconds_of(numbers):
@@ -36,23 +33,8 @@ def seconds_of(numbers):
     return sum(numbers[part] for part in parts) / 1e6
 
 
-def best(args, command):
-    """The quickest of some runs; None where one doesn't end well."""
-    runs = []
-    for _ in range(args.runs):
-        runs.append(told(command, args.seconds, args.out))
-        if runs[-1] is None:
-            return None
-    return min(runs, key=seconds_of)
-
-
-def same_values(found):
-    """Whether runs tell of the same values."""
-    return len({(numbers["elements"], numbers["digest"]) for numbers in found}) == 1
-
-
 def add_text(args, sums, text, owners):
-    """Adds what one text takes to a row. Answers why it can't, or nothing."""
+    """Adds what one text takes to a row, by the quickest of some runs. Answers why it can't, or nothing."""
     commands = {
         "solver": [args.program, text, "solve"],
         "owners": [args.program, text, args.order, args.deal, str(owners)],
@@ -60,14 +42,17 @@ def add_text(args, sums, text, owners):
     }
     found = {}
     for who, command in commands.items():
-        found[who] = best(args, command)
-        if found[who] is None:
+        try:
+            found[who] = min((told(args, command) for _ in range(args.runs)), key=seconds_of)
+        except Failed as failed:
+            print(failed, file=sys.stderr)
             return f"{who} past {args.seconds:.0f} s or its memory"
         sums[who] += seconds_of(found[who])
     sums["grown"] += found["owners"]["elements"]
     sums["received"] += found["owners"]["received"]
     sums["peak"] = max(sums["peak"], found["owners"]["peak"])
-    return "" if same_values(found.values()) else "UNLIKE"
+    values = {(numbers["elements"], numbers["digest"]) for numbers in found.values()}
+    return "" if len(values) == 1 else "UNLIKE"
 
 
 def print_row(args, name, texts, owners):

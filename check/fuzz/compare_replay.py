@@ -156,7 +156,7 @@ class Models(Comparison):
         if world is None or case.schedule is None:
             return
         try:
-            events = reference_text.read(case.schedule, Schedule(case.owners)).events
+            events = reference_text.read(case.schedule, Schedule(case.owners)).said
         except reference_text.Refused:
             return
         least = solve(world.ground.problem)

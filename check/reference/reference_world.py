@@ -172,7 +172,7 @@ class World:
 def dealt(regions, owners, deal, cut):
     """The owner of each region, by a cut file's bytes where there is one, else in turns or in blocks."""
     if cut is not None:
-        return reference_text.read(cut, Cut()).owners
+        return reference_text.read(cut, Cut()).said
     size = -(-regions // owners)
     return [region % owners if deal == "round" else region // size for region in range(regions)]
 
@@ -188,7 +188,7 @@ def problem_of(text):
 def events_of(said, owners):
     """The events of a schedule's bytes; raises `Refused`."""
     try:
-        return reference_text.read(said, Schedule(owners)).events
+        return reference_text.read(said, Schedule(owners)).said
     except reference_text.Refused as refused:
         raise reference_text.Refused(str(refused).replace("nllc: line", "nllc: schedule line", 1)) from None
 
