@@ -31,10 +31,10 @@ def shown(document):
         is_command = line.startswith("    $ ")
         if command and (is_command or not line.startswith("    ")):
             yield command, lines
-            command = None
+            command, lines = None, []
         if is_command:
-            command, lines = line[6:], []
-        else:
+            command = line[6:]
+        elif command:
             lines.append(line[4:])
 
 
