@@ -14,104 +14,43 @@ Prints each run that ends otherwise than it should, and last `N runs, W wrong`; 
 import argparse
 import os
 import pathlib
-import resource
 import sys
 import tempfile
 
-from unstarted_threads import FAULT, PROGRAM, ROOT, TEXTS, VALUES, outcome
+from paths import PROGRAM, ROOT
+from running import ADDRESSES, Tally
+from text_tables import text_of
+from unstarted_threads import TEXTS, outcome, runs_in
 
 MOST_BYTES = 1 << 26      # of a text
-MOST_MEMORY = 1 << 29     # of a run
-REPLAYED = (0, "1 done\nbalance 1\n" + VALUES[1], "")
-CHAIN, CUT, LOAD = TEXTS["chain"], TEXTS["two"], TEXTS["load"]
+LITTLE_MEMORY = ((ADDRESSES, 1 << 29),)
 JSON = '"name": "\'1", "is_universal": false'
-
-# Words, what the pipe of standard input holds, and what the program does with them.
-PIPED = (
-    ("values /dev/stdin", CHAIN, VALUES),
-    ("check /dev/stdin", TEXTS["fault"], FAULT),
-    ("values /dev/stdin --owners 2 --cut two", CHAIN, VALUES),
-    ("values chain --owners 2 --cut /dev/stdin", CUT, VALUES),
-    ("check fault --cut /dev/stdin --mail ring", TEXTS["one"], FAULT),
-    ("replay /dev/stdin --schedule load", CHAIN, REPLAYED),
-    ("replay chain --cut /dev/stdin --schedule load", TEXTS["one"], REPLAYED),
-    ("replay chain --schedule /dev/stdin", LOAD, REPLAYED),
-)
-
-# The same of nllc.sh, to which a hyphen is standard input.
-SCRIPT = (
-    ("values -", CHAIN, VALUES),
-    ("check - --owners 2", TEXTS["fault"], FAULT),
-    ("values chain --owners 2 --cut -", CUT, VALUES),
-    ("values chain --owners=2 --cut=-", CUT, VALUES),
-    ("replay chain --schedule -", LOAD, REPLAYED),
-    ("replay chain --cut=- --schedule=load", TEXTS["one"], REPLAYED),
-    # Of several texts each gets the whole cut file.
-    ("check fault chain fault --cut -", TEXTS["one"],
-     (1, "fault: fault 'a must outlive 'b\nchain: ok\nfault: fault 'a must outlive 'b\n", "")),
-    ("values syntax chain --cut=- --owners=2", CUT,
-     (2, "".join(f"chain: {line}\n" for line in VALUES[1].splitlines()), "syntax: nllc: line 3: syntax\n")),
-)
-
-# Words whose first text that is refused comes before a text that is never there.
-UNOPENED = {
-    "values syntax --cut never": (2, "", "nllc: line 3: syntax\n"),
-    "check many --cut never": (2, "", "nllc: limit constraints\n"),
-    "replay many --cut never --schedule never": (2, "", "nllc: limit constraints\n"),
-    "replay missing --cut never --schedule never": (2, "", "nllc: cannot read missing\n"),
-    "replay chain --cut short --schedule never": (2, "", "nllc: cut: length\n"),
-    "replay chain --cut two --schedule never": (2, "", "nllc: cut: no such owner at 0\n"),
-    "replay chain --cut missing --schedule never": (2, "", "nllc: cannot read missing\n"),
-}
-
-# Files of zeros: `long` has as many bytes as a text may have, `longer` one more, `vast` 4 GB.
-LONG = {
-    "values long": (2, "", "nllc: line 1: header\n"),
-    "values longer": (2, "", "nllc: line 1: limit text\n"),
-    "check vast": (2, "", "nllc: line 1: limit text\n"),
-    "values /dev/zero": (2, "", "nllc: line 1: limit text\n"),
-    "values chain --cut vast": (2, "", "nllc: cut line 1: limit text\n"),
-    "replay chain --schedule vast": (2, "", "nllc: schedule line 1: limit text\n"),
-}
-
-
-def too_many_constraints():
-    """A MIR text of 520 assignments, each of 2,040 references whose regions all differ."""
-    regions = [f"'{letter}{number}" for letter in "xy" for number in range(2_040)]
-    types = [", ".join(f"&{region} int" for region in regions[at:at + 2_040]) for at in (0, 2_040)]
-    lines = ["nll-mir 1", *(f"region {region}" for region in regions), "let _0: int",
-             *(f"let _{number}: ({types[number - 1]})" for number in (1, 2)), "blocks 1", "block bb0",
-             *["_1 = copy _2"] * 520, "return", "end"]
-    return "\n".join(lines) + "\n"
 
 
 def write_files(folder):
-    texts = {**TEXTS, "syntax": "nll-facts 1\n\npoints one\n", "many": too_many_constraints()}
+    """Writes the texts, files of zeros, and a pipe."""
+    texts = {**TEXTS, "syntax": text_of("runs", "syntax"), "many": text_of("mir_limits", "constraints_past_limit")}
     for name, text in texts.items():
-        (folder / name).write_text(text)
+        (folder / name).write_bytes(text)
     for name, length in (("long", MOST_BYTES), ("longer", MOST_BYTES + 1), ("vast", 1 << 32)):
         (folder / name).touch()
         os.truncate(folder / name, length)
     os.mkfifo(folder / "never")
 
 
-def little_memory():
-    resource.setrlimit(resource.RLIMIT_AS, (MOST_MEMORY, MOST_MEMORY))
-
-
 def runs_of(program, folder, seconds):
     """Words, what came of each run, and what should."""
-    for words, given, wanted in PIPED:
-        yield words, outcome(program, words, folder, seconds, None, given), wanted
-    for words, given, wanted in SCRIPT:
-        yield f"nllc.sh {words}", outcome(ROOT / "nllc.sh", words, folder, seconds, None, given), wanted
+    script = ROOT / "nllc.sh"
+    for words, given, wanted in runs_in("piped"):
+        yield words, outcome(program, words, folder, seconds, given=given), wanted
+    for words, given, wanted in runs_in("script"):
+        yield f"nllc.sh {words}", outcome(script, words, folder, seconds, given=given), wanted
     for path in ("-", "/dev/stdin"):
-        status, out, err = outcome(ROOT / "nllc.sh", f"json {path}", folder, seconds, None, CHAIN)
+        status, out, err = outcome(script, f"json {path}", folder, seconds, given=TEXTS["chain"])
         yield f"nllc.sh json {path}", (status, JSON in out, err), (0, True, "")
-    for words, wanted in UNOPENED.items():
-        yield words, outcome(program, words, folder, seconds, None), wanted
-    for words, wanted in LONG.items():
-        yield words, outcome(program, words, folder, seconds, little_memory), wanted
+    for name, limits in (("unopened", ()), ("long", LITTLE_MEMORY)):
+        for words, _, wanted in runs_in(name):
+            yield words, outcome(program, words, folder, seconds, limits), wanted
 
 
 def main():
@@ -121,16 +60,12 @@ def main():
     args = parser.parse_args()
     program = args.nllc.resolve()
     os.environ["NLLC"] = str(program)    # nllc.sh runs it
-    runs = wrong = 0
+    tally = Tally()
     with tempfile.TemporaryDirectory() as folder:
         write_files(pathlib.Path(folder))
         for words, told, wanted in runs_of(program, folder, args.seconds):
-            runs += 1
-            if told != wanted:
-                wrong += 1
-                print(f"{words}: {told!r} in place of {wanted!r}")
-    print(f"{runs} runs, {wrong} wrong")
-    return 1 if wrong else 0
+            tally.compare(words, told, wanted)
+    return tally.tell()
 
 
 if __name__ == "__main__":

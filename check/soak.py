@@ -18,24 +18,19 @@ import concurrent.futures
 import os
 import pathlib
 import random
-import resource
 import subprocess
 import sys
 import tempfile
 import threading
 import time
 
-HERE = pathlib.Path(__file__).resolve().parent
-sys.path += [str(HERE / "fuzz"), str(HERE / "refuse")]
+import paths  # noqa: F401 (it says where the others stand)
+import small_facts
+import small_mir
+from allocator import KEPT_BY_THREADS, Allocator
+from comparing import write
+from running import ADDRESSES, KIB, MEMORY, UNSTARTED
 
-import generate  # noqa: E402 (the paths are above)
-import small_mir  # noqa: E402
-from allocator import Allocator  # noqa: E402
-from memory import REFUSED, UNSTARTED  # noqa: E402
-
-KIB = 1024
-# The blocks that the C library keeps for the stack of a thread that ended.
-KEPT_BY_THREADS = 2
 
 
 class Soak:
@@ -45,29 +40,12 @@ class Soak:
         self.args, self.folder = args, folder
         self.lock = threading.Lock()
         self.runs = self.refused = self.wrong = 0
-        self.library = Allocator(folder).library
+        self.allocator = Allocator(folder)
 
-    def run(self, words, counts, at=0, kib=None):
+    def run(self, words, at=0, kib=None):
         """The answer of a run, how many growths it asked for, and how many blocks it left."""
-        known = {"LD_PRELOAD": self.library, "REFUSE_AT": str(at), "REFUSE_COUNT": counts}
-
-        def prepare():
-            if kib:
-                resource.setrlimit(resource.RLIMIT_AS, (kib * KIB, kib * KIB))
-
-        if os.path.exists(counts):
-            os.remove(counts)
-        try:
-            done = subprocess.run([self.args.nllc, *words], stdin=subprocess.DEVNULL, capture_output=True,
-                                  timeout=self.args.seconds, check=False, env={**os.environ, **known},
-                                  preexec_fn=prepare)
-        except subprocess.TimeoutExpired:
-            return ("no answer in time", b"", b""), 0, 0
-        if not os.path.exists(counts):
-            return (done.returncode, done.stdout, done.stderr), 0, 0
-        with open(counts, encoding="ascii") as file:
-            asked, left = map(int, file.read().split())
-        return (done.returncode, done.stdout, done.stderr), asked, left
+        limits = [(ADDRESSES, kib * KIB)] if kib else []
+        return self.allocator.run([self.args.nllc, *words], at, self.args.seconds, limits)
 
     def note(self, is_right, is_refused, words, answer, texts):
         """Counts a run, and keeps the texts of one that is wrong."""
@@ -80,8 +58,7 @@ class Soak:
             return
         os.makedirs(self.args.save, exist_ok=True)
         for name, text in texts.items():
-            with open(os.path.join(self.args.save, f"{number}-{name}"), "wb") as file:
-                file.write(text)
+            write(os.path.join(self.args.save, f"{number}-{name}"), text)
         print(" ".join(words), repr(answer)[:300], flush=True)
 
 
@@ -93,51 +70,50 @@ def words_of_owners(rng, regions, folder, name):
     if deal != "cut" or regions is None:
         return [*words, "--deal", "round" if deal == "cut" else deal], None
     path = os.path.join(folder, f"{name}.cut")
-    cut = "nll-cut 1\n" + "".join(f"{rng.randrange(owners)}\n" for _ in range(regions))
-    with open(path, "w", encoding="ascii") as file:
-        file.write(cut)
-    return [*words, "--cut", path], cut.encode()
+    cut = b"nll-cut 1\n" + b"".join(b"%d\n" % rng.randrange(owners) for _ in range(regions))
+    write(path, cut)
+    return [*words, "--cut", path], cut
+
+
+def text_of(soak, rng):
+    """A small text of either format, or a file's."""
+    is_mir = rng.random() < 0.3
+    if soak.args.files and rng.random() < 0.2:
+        return pathlib.Path(rng.choice(soak.args.files)).read_bytes()
+    return (small_mir if is_mir else small_facts).small(rng)
 
 
 def one_round(soak, seed):
     """One text, and some runs of it."""
     rng = random.Random(seed)
     name = f"text-{seed}"
-    is_mir = rng.random() < 0.3
     path = os.path.join(soak.folder, name)
-    if soak.args.files and rng.random() < 0.2:
-        with open(rng.choice(soak.args.files), "rb") as file:
-            text = file.read()
-    else:
-        text = (small_mir if is_mir else generate).small(rng)
-    with open(path, "wb") as file:
-        file.write(text)
-    counts = os.path.join(soak.folder, f"{name}.counts")
+    text = text_of(soak, rng)
+    write(path, text)
     task = rng.choice(["values", "check"])
-    usual, _, _ = soak.run([task, path], counts)
-    values = usual if task == "values" else soak.run(["values", path], counts)[0]
+    usual = soak.run([task, path]).answer
+    values = usual if task == "values" else soak.run(["values", path]).answer
     regions = values[1].count(b"\n") if values[0] == 0 else None
     for _ in range(4):
         options, cut = words_of_owners(rng, regions, soak.folder, name)
         words = [task, *options, path]
-        answer, growths, kept = soak.run(words, counts)
+        answer, growths, kept = soak.run(words)
         texts = {name: text, **({f"{name}.cut": cut} if cut else {})}
         soak.note(answer == usual, False, words, answer, texts)
         if rng.random() < 0.33 and growths:
             at = rng.randint(1, growths)
-            answer, _, left = soak.run(words, counts, at)
-            is_refused = answer in (REFUSED, UNSTARTED)
+            answer, _, left = soak.run(words, at)
+            is_refused = answer in (MEMORY, UNSTARTED)
             is_right = (is_refused or answer == usual) and left <= max(kept, KEPT_BY_THREADS * 16)
             soak.note(is_right, is_refused, [*words, f"refused {at}", f"left {left}"], answer, texts)
         if rng.random() < 0.17:
             kib = rng.randint(3 * KIB, 200 * KIB)
-            answer, _, _ = soak.run(words, counts, 0, kib)
-            is_refused = answer in (REFUSED, UNSTARTED)
+            answer = soak.run(words, kib=kib).answer
+            is_refused = answer in (MEMORY, UNSTARTED)
             is_right = is_refused or answer == usual or answer[0] == 127
             soak.note(is_right, is_refused, [*words, f"{kib} KiB"], answer, texts)
-    for left in (path, counts, f"{path}.cut"):
-        if os.path.exists(left):
-            os.remove(left)
+    for left in (path, f"{path}.cut"):
+        write(left, None)
 
 
 def soak_for(soak, minutes, jobs, seed):

@@ -22,86 +22,38 @@ status 1 where W isn't 0, or where no thread was refused that could have been.
 """
 
 import argparse
-import glob
 import os
-import resource
 import shutil
-import subprocess
 import sys
 import tempfile
 
-HERE = os.path.dirname(os.path.abspath(__file__))
-MEMORY = (3, b"", b"nllc: memory\n")
-THREAD = (3, b"", b"nllc: thread\n")
+from paths import ROOT
+from running import ADDRESSES, FILE_SIZE, KIB, MEMORY, PROCESSES, STACK, UNSTARTED, Tally, run
+
 CANNOT_WRITE = b"nllc: cannot write\n"
 # A user that has no processes.
 USER = 54321
 OWNERS = 8
-KIB = 1024
 
 
-class Tally:
-    """How many runs there were, and how many of them were wrong."""
-
-    def __init__(self):
-        self.runs = self.wrong = 0
-
-    def judge(self, is_right, what, answer):
-        self.runs += 1
-        if not is_right:
-            self.wrong += 1
-            print(f"{what}: {answer!r}", flush=True)
+# What there is little of or much, in which unit, how much of it, and for which user.
+HELD_BACK = {
+    "{} processes": (PROCESSES, 1, range(1, OWNERS + 3), USER),
+    "a stack of {} KiB": (STACK, KIB, (256, 512, 1024, 1 << 30, 1 << 36), None),
+    "{} KiB to address": (ADDRESSES, KIB, (*range(2048, 16384, 512), *range(16384, 131072, 8192)), None),
+}
 
 
-def run(command, seconds, limits=(), user=None, out=subprocess.PIPE, err=subprocess.PIPE):
-    """Status, standard output and standard error under these limits."""
-
-    def prepare():
-        for kind, amount in limits:
-            resource.setrlimit(kind, (amount, amount))
-        if user is not None:
-            os.setgroups([])
-            os.setgid(user)
-            os.setuid(user)
-
-    try:
-        done = subprocess.run(command, stdin=subprocess.DEVNULL, stdout=out, stderr=err,
-                              timeout=seconds, check=False, preexec_fn=prepare,
-                              restore_signals=False)
-    except subprocess.TimeoutExpired:
-        return "no answer in time", b"", b""
-    return done.returncode, done.stdout, done.stderr
-
-
-def few_processes(tally, command, usual, seconds):
-    """How many threads were refused to a user with ever more processes."""
+def held_back(tally, command, usual, seconds):
+    """How many runs were refused a thread for want of processes or of room for its stack."""
     refused = 0
-    for most in range(1, OWNERS + 3):
-        answer = run(command, seconds, [(resource.RLIMIT_NPROC, most)], USER)
-        refused += answer == THREAD
-        tally.judge(answer in (usual, THREAD), f"{most} processes", answer)
-    return refused
-
-
-def stacks(tally, command, usual, seconds):
-    """How many runs were refused a thread for want of room for its stack."""
-    refused = 0
-    for kib in (256, 512, 1024, 1 << 30, 1 << 36):
-        answer = run(command, seconds, [(resource.RLIMIT_STACK, kib * KIB)])
-        refused += answer == THREAD
-        tally.judge(answer in (usual, THREAD), f"a stack of {kib} KiB", answer)
-    return refused
-
-
-def little_memory(tally, command, usual, seconds):
-    """How many runs were refused memory, where there are so many KiB to address."""
-    refused = 0
-    for kib in [*range(2048, 16384, 512), *range(16384, 131072, 8192)]:
-        answer = run(command, seconds, [(resource.RLIMIT_AS, kib * KIB)])
-        is_loaded = answer[0] != 127
-        refused += answer in (MEMORY, THREAD)
-        if is_loaded:
-            tally.judge(answer in (usual, MEMORY, THREAD), f"{kib} KiB to address", answer)
+    for what, (kind, unit, amounts, user) in HELD_BACK.items():
+        right = (usual, UNSTARTED, *[MEMORY] * (kind == ADDRESSES))
+        for amount in amounts if user is None or os.geteuid() == 0 else ():
+            answer = run(command, seconds, [(kind, amount * unit)], user)
+            refused += answer == UNSTARTED and kind != ADDRESSES
+            if kind != ADDRESSES or answer[0] != 127:    # else it can't even be loaded
+                tally.judge(answer in right, what.format(amount), answer)
     return refused
 
 
@@ -111,7 +63,7 @@ def full_files(tally, command, usual, seconds, folder):
     cut = 0
     for most in [*range(min(len(report), 300)), len(report) - 1, len(report), len(report) + 1]:
         with open(path, "wb") as out:
-            status, _, err = run(command, seconds, [(resource.RLIMIT_FSIZE, most)], out=out)
+            status, _, err = run(command, seconds, [(FILE_SIZE, most)], out=out)
         with open(path, "rb") as out:
             got = out.read()
         right = (3, report[:most], CANNOT_WRITE) if most < len(report) else usual
@@ -143,10 +95,7 @@ def try_file(tally, program, path, seconds, folder):
     refused = 0
     for mail in ("queue", "ring"):
         owners = [program, "values", "--owners", str(OWNERS), "--mail", mail, path]
-        if os.geteuid() == 0:
-            refused += few_processes(tally, owners, usual, seconds)
-        refused += stacks(tally, owners, usual, seconds)
-        little_memory(tally, owners, usual, seconds)
+        refused += held_back(tally, owners, usual, seconds)
         full_files(tally, owners, usual, seconds, folder)
     closed_streams(tally, plain, usual, seconds)
     print(f"{os.path.basename(path)}: {tally.runs} runs so far, {refused} threads refused, "
@@ -160,7 +109,7 @@ def main():
     parser.add_argument("--seconds", type=float, default=20.0, help="time limit of a run")
     parser.add_argument("files", metavar="FILE", nargs="*")
     args = parser.parse_args()
-    files = args.files or sorted(glob.glob(os.path.join(HERE, "..", "examples", "*.facts")))
+    files = args.files or sorted(map(str, ROOT.glob("examples/*.facts")))
     tally = Tally()
     refused = 0
     if os.geteuid() != 0:
@@ -172,8 +121,7 @@ def main():
             path = shutil.copy(file, folder)
             os.chmod(path, 0o644)
             refused += try_file(tally, program, path, args.seconds, folder)
-    print(f"{tally.runs} runs, {tally.wrong} wrong")
-    return 1 if tally.wrong or not refused else 0
+    return tally.tell() or int(not refused)
 
 
 if __name__ == "__main__":

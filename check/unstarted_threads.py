@@ -14,74 +14,34 @@ Each run is made twice, with threads and without. Prints each that ends otherwis
 
 import argparse
 import pathlib
-import resource
-import subprocess
 import sys
 import tempfile
 
-ROOT = pathlib.Path(__file__).resolve().parents[1]
-PROGRAM = ROOT / "crates" / "nllc" / "out" / "nllc"
-NO_STACK = 1 << 60
+from paths import PROGRAM
+from running import STACK, UNSTARTED, Tally, run
+from text_tables import lines_of, text_of
 
-TEXTS = {
-    # Three regions with 'static.
-    "chain": "nll-facts 1\npoints 3\nregion '1\nregion '2\nnext 0 1\nnext 1 2\nreturn 2\n"
-             "base '1 1\nbase '1 2\nconstraint '2 '1 1\nend\n",
-    "fault": "nll-facts 1\npoints 2\nuniversal 'a\nuniversal 'b\nnext 0 1\nreturn 1\nconstraint 'a 'b 0\nend\n",
-    "one": "nll-cut 1\n0\n0\n0\n",
-    "two": "nll-cut 1\n1\n0\n1\n",
-    "short": "nll-cut 1\n0\n1\n",
-    "load": "nll-schedule 1\nload 0\n",
-}
-
-VALUES = (0, "'static: 0 1 2 end('static)\n'1: 1 2\n'2: 1 2\n", "")
-FAULT = (1, "fault 'a must outlive 'b\n", "")
-THREAD = (3, "", "nllc: thread\n")
-
-# Words that ask for no owners in threads, and what the program does with them.
-BY_ONE = {
-    "values chain": VALUES,
-    "check fault": FAULT,
-    "values chain --deal blocks": VALUES,
-    "values chain --mail ring": VALUES,
-    # Owners of a replay are in one thread.
-    "replay chain --schedule load": (0, "1 done\nbalance 1\n" + VALUES[1], ""),
-}
-
-# Words that ask for them.
-BY_OWNERS = {
-    "values chain --owners 1": VALUES,
-    "values chain --owners 2": VALUES,
-    "values chain --owners 64": VALUES,
-    "values chain --owners 2 --deal blocks": VALUES,
-    "values chain --owners 2 --mail ring": VALUES,
-    "values chain --cut one": VALUES,
-    "values chain --owners 2 --cut two": VALUES,
-    "check fault --owners 2": FAULT,
-    "check fault --cut one --mail ring": FAULT,
-}
-
-# Words that are refused before a thread is started.
-REFUSED = {
-    "values missing --owners 2": (2, "", "nllc: cannot read missing\n"),
-    "values chain --cut missing": (2, "", "nllc: cannot read missing\n"),
-    "check chain --owners 2 --cut short": (2, "", "nllc: cut: length\n"),
-    "check chain --cut two": (2, "", "nllc: cut: no such owner at 0\n"),
-}
+NO_STACK = ((STACK, 1 << 60),)
+TEXTS = {name: text_of("runs", name) for name in ("chain", "fault", "one", "two", "short", "load")}
+# What the program ends with and says on standard error, beside what it prints.
+ANSWERS = {"values of chain": (0, ""), "a fault": (1, ""), "a replay of chain": (0, ""), "three checks": (1, ""),
+           "values of chain beside a syntax error": (2, "syntax: nllc: line 3: syntax\n")}
 
 
-def no_threads():
-    resource.setrlimit(resource.RLIMIT_STACK, (NO_STACK, NO_STACK))
+def runs_in(name):
+    """The words of each run of a list, what its standard input gives, and what it answers."""
+    for line in lines_of("runs", name):
+        asked, _, answer = line.decode().partition(" => ")
+        words, _, given = asked.partition(" < ")
+        status, err = ANSWERS.get(answer, (2, f"{answer}\n"))
+        out = text_of("runs", answer).decode() if answer in ANSWERS else ""
+        yield words, TEXTS.get(given, b""), (status, out, err)
 
 
-def outcome(program, words, folder, seconds, prepare, given=""):
-    """Status, standard output and standard error; standard input is a pipe with what is given."""
-    try:
-        done = subprocess.run([program, *words.split()], cwd=folder, input=given.encode(), capture_output=True,
-                              timeout=seconds, check=False, preexec_fn=prepare)
-    except subprocess.TimeoutExpired:
-        return "no answer in time", "", ""
-    return done.returncode, done.stdout.decode(errors="replace"), done.stderr.decode(errors="replace")
+def outcome(program, words, folder, seconds, limits=(), given=b""):
+    """Status, standard output and standard error of a run in a folder."""
+    status, out, err = run([program, *words.split()], seconds, limits, given=given, folder=folder)
+    return status, out.decode(errors="replace"), err.decode(errors="replace")
 
 
 def main():
@@ -90,21 +50,16 @@ def main():
     parser.add_argument("--nllc", metavar="PATH", default=PROGRAM, type=pathlib.Path)
     args = parser.parse_args()
     program = args.nllc.resolve()
-    usual = {**BY_ONE, **BY_OWNERS, **REFUSED}
-    alone = {**BY_ONE, **dict.fromkeys(BY_OWNERS, THREAD), **REFUSED}
-    runs = wrong = 0
+    tally, unstarted = Tally(), (3, "", UNSTARTED[2].decode())
     with tempfile.TemporaryDirectory() as folder:
         for name, text in TEXTS.items():
-            pathlib.Path(folder, name).write_text(text)
-        for known, prepare, how in ((usual, None, "threads"), (alone, no_threads, "no threads")):
-            for words, wanted in known.items():
-                told = outcome(program, words, folder, args.seconds, prepare)
-                runs += 1
-                if told != wanted:
-                    wrong += 1
-                    print(f"{words}, with {how}: {told!r} in place of {wanted!r}")
-    print(f"{runs} runs, {wrong} wrong")
-    return 1 if wrong else 0
+            pathlib.Path(folder, name).write_bytes(text)
+        for limits, how in (((), "threads"), (NO_STACK, "no threads")):
+            for name in ("by one", "by owners", "refused"):
+                for words, _, wanted in runs_in(name):
+                    wanted = unstarted if limits and name == "by owners" else wanted
+                    tally.compare(f"{words}, with {how}", outcome(program, words, folder, args.seconds, limits), wanted)
+    return tally.tell()
 
 
 if __name__ == "__main__":

@@ -17,6 +17,19 @@ def uses_of(root):
     return {name: [it for it in row.partition(":")[2].split() if it in lines] for name, row in lines.items()}
 
 
+def layers_of(root):
+    """The headings of crates.txt, each with what it says behind a colon, or None, and its crates."""
+    found = []
+    with open(os.path.join(root, "crates.txt"), encoding="utf-8") as file:
+        for line in file.read().splitlines():
+            heading = re.match(r"# ---- ([^:]*)(?:: (.*))?$", line)
+            if heading:
+                found.append((heading[1], heading[2], []))
+            elif line and not line.startswith("#"):
+                found[-1][2].append(re.split("[: ]", line)[0])
+    return found
+
+
 def below(uses, name):
     """The crates below one, each after those that it uses."""
     found = []

@@ -19,7 +19,6 @@ import csv
 import json
 import os
 import pathlib
-import re
 import resource
 import shutil
 import signal
@@ -27,6 +26,7 @@ import subprocess
 import sys
 import time
 
+from crates import layers_of
 from processes import Watch, crate_of, is_edit, seconds_of
 
 ROOT = pathlib.Path(__file__).resolve().parents[1]
@@ -35,7 +35,6 @@ ROOT = pathlib.Path(__file__).resolve().parents[1]
 # (docs/dev/GATE.md).
 YARDSTICK = {"nll_sets": 28.5, "nll_cut": 13.6}
 BUDGET = ROOT / "tools" / "gate_budget.csv"
-LAYER = re.compile(r"# ---- ([^:\n]*)")
 # Beyond this the yardstick's crates tell of different machines, so one of them isn't what it was.
 MOST_APART = 2.0
 
@@ -96,22 +95,11 @@ def budgets(path=BUDGET):
     return {row.pop("crate"): {name: float(figure or 0) for name, figure in row.items()} for row in csv.DictReader(lines)}
 
 
-def layers(root=ROOT):
-    """The headings of crates.txt, each with its crates."""
-    found = {}
-    for line in (root / "crates.txt").read_text().splitlines():
-        if heading := LAYER.match(line):
-            crates = found.setdefault(heading[1], [])
-        elif line and not line.startswith("#"):
-            crates.append(re.split("[: ]", line)[0])
-    return found
-
-
 def budget_table():
     """The budget as two tables: by layer, and by crate."""
     rows, figures = budgets(), ("check", "tests", "edits", "units", "budget")
     sums = {layer: {name: sum(rows[crate][name] for crate in crates) for name in figures}
-            for layer, crates in layers().items()}
+            for layer, _, crates in layers_of(ROOT)}
     sums["all"] = {name: sum(row[name] for row in rows.values()) for name in figures}
     lines = ["| Layer | units | budget |", "|---|---|---|"]
     lines += [f"| {layer} | {row['units']:.1f} | {row['budget']:.1f} |" for layer, row in sums.items()]

@@ -16,7 +16,7 @@ import tempfile
 import time
 
 from crates import below, uses_of
-from proving import most_at_once, started
+from proving import most_at_once, say, started
 from rooms import Room, alone_in, folder_of, remove_left
 from shares import ahead_of, lines_in, shares
 
@@ -25,10 +25,6 @@ PROGRAM = "nllc"
 # How `rt` ends where a check was killed, most likely for memory, or where it was killed itself.
 KILLED = (256 - signal.SIGKILL, -signal.SIGKILL)
 PAUSE = 0.1
-
-
-def say(text):
-    print("{}: {}".format(os.environ.get("NLLC_CALLED", "nllc.sh"), text), file=sys.stderr, flush=True)
 
 
 class Progress:

@@ -11,10 +11,15 @@ import contextlib
 import os
 import re
 import subprocess
+import sys
 
 # A check of the largest crates takes some three; `rt` says nothing of how many fit.
 BYTES_EACH = 4 * 2**30
 KILLED = re.compile(r"^\w+: failed \(-9\)$")
+
+
+def say(text):
+    print("{}: {}".format(os.environ.get("NLLC_CALLED", "nllc.sh"), text), file=sys.stderr, flush=True)
 
 
 def processors():

@@ -54,6 +54,17 @@ def library_of(root, crate):
     return os.path.join(folder_of(root, crate), "out", "rlib")
 
 
+def copy_crates(root, to, crates):
+    """Copies the sources of crates into another tree, and their lines of crates.txt."""
+    for crate in crates:
+        for part in SOURCES:
+            copy(os.path.join(folder_of(root, crate), part), os.path.join(folder_of(to, crate), part))
+    with open(os.path.join(root, "crates.txt"), encoding="utf-8") as file:
+        lines = lines_of(file.read())
+    with open(os.path.join(to, "crates.txt"), "w", encoding="utf-8") as file:
+        file.writelines(lines[crate] + "\n" for crate in crates)
+
+
 @contextlib.contextmanager
 def alone_in(folder, told=lambda: None):
     """Keeps others out of the folder, as `rt` does; where one is in it, calls `told` and waits."""
@@ -79,14 +90,10 @@ class Room:
 
     def open(self):
         """Makes the room."""
-        for crate in [*self.libraries, self.crate]:
-            for part in SOURCES:
-                copy(os.path.join(folder_of(self.root, crate), part), os.path.join(folder_of(self.top, crate), part))
+        crates = [*self.libraries, self.crate]
+        copy_crates(self.root, self.top, crates)
+        for crate in crates:
             copy(library_of(self.root, crate), library_of(self.top, crate), link)
-        with open(os.path.join(self.root, "crates.txt"), encoding="utf-8") as file:
-            lines = lines_of(file.read())
-        with open(os.path.join(self.top, "crates.txt"), "w", encoding="utf-8") as file:
-            file.writelines(lines[crate] + "\n" for crate in [*self.libraries, self.crate])
         self.is_open = True
         with alone_in(folder_of(self.root, self.crate)):
             move(kept_of(self.root, self.crate), kept_of(self.top, self.crate))

@@ -30,17 +30,26 @@ Edit = collections.namedtuple("Edit", "crate name pairs")
 Tried = collections.namedtuple("Tried", "crate edit by text")
 
 
-def read_edit(crate, path):
-    """An edit with its pairs: the file, the text that goes, and the one that comes."""
-    pairs, file, old = [], None, None
-    for line in pathlib.Path(path).read_text(encoding="utf-8").split("\n"):
+def pairs_in(text):
+    """The changes that an edit makes: the file, the text that goes, and the one that comes; lines behind a bar go on."""
+    pairs, file = [], None
+    for line in text.splitlines():
+        rest = line.partition(":")[2]
         if line.startswith("file: "):
-            file = line[len("file: "):].strip()
+            file = rest.strip()
         elif line.startswith("old: "):
-            old = line[len("old: "):]
+            pairs.append([file, rest[1:]])
         elif line.startswith("new:"):
-            pairs.append((file, old, line[len("new:"):].removeprefix(" ")))
-    return Edit(crate, pathlib.Path(path).stem, tuple(pairs))
+            pairs[-1].append(rest.removeprefix(" "))
+        elif line.startswith("|") and pairs:
+            pairs[-1][-1] += "\n" + line[1:].removeprefix(" ")
+    return tuple(map(tuple, pairs))
+
+
+def read_edit(crate, path):
+    """An edit with its changes."""
+    path = pathlib.Path(path)
+    return Edit(crate, path.stem, pairs_in(path.read_text(encoding="utf-8")))
 
 
 def function_at(text, place):
@@ -66,14 +75,14 @@ def applied(edit, texts, folder):
     Nothing where one of its texts doesn't stand there once.
     """
     texts, changed = dict(texts), set()
-    for file, old, new in edit.pairs:
+    for file, old, *new in edit.pairs:
         path = pathlib.Path(folder) / file
         text = texts[file] if file in texts else path.read_text(encoding="utf-8") if path.is_file() else ""
-        if text.count(old) != 1:
+        if not new or text.count(old) != 1:
             return None
         name = function_at(text, text.index(old)) if file.startswith("src/") else None
         changed.add(name and (module_of(edit.crate, file), name))
-        texts[file] = text.replace(old, new)
+        texts[file] = text.replace(old, new[0])
     return texts, changed
 
 

@@ -33,9 +33,10 @@ import sys
 import tempfile
 import time
 
-from crates import below, edits_in, lines_of, uses_of
+from crates import below, edits_in, uses_of
 from proving import most_at_once, started
-from rooms import SOURCES, copy, folder_of
+from rooms import copy_crates, folder_of
+from rounds import applied, pairs_in
 
 ROOT = pathlib.Path(__file__).resolve().parents[1]
 FOLDER = "tried-bodies"
@@ -45,24 +46,8 @@ NO_TEST = "\n#[cfg(test)]\nmod tried {\n    #[test]\n    fn tried(_rt: HostRunti
 TEST = re.compile(r"^#\[test\]\nfn (\w+)\(.*?^\}\n", re.M | re.S)
 ERROR = re.compile(r"^\S+:\d+:\d+: error(?:\[[\w-]+\])?: (.*)$", re.M)
 
-Edit = collections.namedtuple("Edit", "crate name tests test message changes")
+Edit = collections.namedtuple("Edit", "crate name tests test message pairs")
 Tried = collections.namedtuple("Tried", "edit seconds is_right text")
-
-
-def changes_of(lines):
-    """The file, the old text and the new one of each change that an edit makes."""
-    found, path = [], None
-    for line in lines:
-        if line.startswith("file: "):
-            path = line[6:].strip()
-        elif line.startswith("old: "):
-            found.append([path, line[5:], None])
-        elif line.startswith("new:"):
-            found[-1][2] = line[4:].removeprefix(" ")
-        elif line.startswith("|") and found:
-            at = 1 if found[-1][2] is None else 2
-            found[-1][at] += "\n" + line[1:].removeprefix(" ")
-    return found
 
 
 def read_edit(path):
@@ -74,7 +59,7 @@ def read_edit(path):
         raise ValueError(f"{path}: no single line `# fails: TESTS TEST` or `# refused: TESTS: MESSAGE`")
     path = pathlib.Path(path)
     return Edit(path.parents[1].name, path.stem, (fails or refused)[1], fails and fails[2], refused and refused[2],
-                changes_of(text.splitlines()))
+                pairs_in(text))
 
 
 def edits_of(root):
@@ -85,13 +70,11 @@ def edits_of(root):
 
 
 def apply(edit, folder):
-    """Makes the changes of an edit in its crate's folder."""
-    for path, old, new in edit.changes:
-        file = pathlib.Path(folder) / path
-        text = file.read_text(encoding="utf-8")
-        if new is None or text.count(old) != 1:
-            raise ValueError(f"{path} has {text.count(old)} times: {old}")
-        file.write_text(text.replace(old, new), encoding="utf-8")
+    """Makes the changes of an edit in its crate's folder; says whether each text stands there once."""
+    made = applied(edit, {}, folder)
+    for file, text in made[0].items() if made else ():
+        (pathlib.Path(folder) / file).write_text(text, encoding="utf-8")
+    return made is not None
 
 
 def leave_one(folder, test):
@@ -120,13 +103,7 @@ def add_test(folder):
 def copied(root, room, tests):
     """Copies what a crate of tests stands on, as it is in the tree."""
     crates = [*below(uses_of(root), tests), tests]
-    for crate in crates:
-        for part in SOURCES:
-            copy(os.path.join(folder_of(root, crate), part), os.path.join(folder_of(room, crate), part))
-    with open(os.path.join(root, "crates.txt"), encoding="utf-8") as file:
-        lines = lines_of(file.read())
-    with open(os.path.join(room, "crates.txt"), "w", encoding="utf-8") as file:
-        file.writelines(lines[crate] + "\n" for crate in crates)
+    copy_crates(root, room, crates)
     shutil.copy(os.path.join(root, "HANDLES"), room)
 
 
@@ -151,10 +128,8 @@ def try_edit(root, edit, seconds):
     began = time.monotonic()
     with tempfile.TemporaryDirectory(prefix="nllc-") as room:
         copied(root, room, edit.tests)
-        try:
-            apply(edit, folder_of(room, edit.crate))
-        except (OSError, ValueError) as error:
-            return Tried(edit, 0, False, f"BAD EDIT: {error}")
+        if not apply(edit, folder_of(room, edit.crate)):
+            return Tried(edit, 0, False, "BAD EDIT: a text doesn't stand there once")
         if edit.test is None:
             add_test(folder_of(room, edit.tests))
         elif not leave_one(folder_of(room, edit.tests), edit.test):

@@ -9,13 +9,10 @@ each; status 1 where the counts differ or a run fails.
 
 import argparse
 import os
-import pathlib
 import sys
 import tempfile
 
-sys.path.append(str(pathlib.Path(__file__).resolve().parents[2] / "check" / "refuse"))
-
-from allocator import Allocator  # noqa: E402 (it stands in check/refuse/)
+from allocator import Allocator
 
 
 def main():

@@ -12,15 +12,11 @@ grew by more than 1.5 times what text and report grew by. It finds what to look 
 import argparse
 import itertools
 import os
-import pathlib
 import sys
 import tempfile
 
-from measure import run
-
-sys.path.append(str(pathlib.Path(__file__).resolve().parents[2] / "check" / "fuzz"))
-
-from growth_mir import DIMENSIONS, grown  # noqa: E402 (it is in check/fuzz/)
+from growth_mir import DIMENSIONS, grown
+from timing import head, row, run
 
 # The most that a dimension can be.
 MOST = {"universals": 255, "structs": 1_000, "references": 2_040, "regions": 60_000,
@@ -84,8 +80,7 @@ def main():
     if args.only:
         groups = [names for names in groups if set(names) & set(args.only)]
     found = 0
-    print("| dimensions | sizes | text and report, bytes | user s | peak MiB | told |")
-    print("|---|---|---|---|---|---|")
+    head("dimensions | sizes | text and report, bytes | user s | peak MiB | told")
     with tempfile.TemporaryDirectory() as folder:
         small = measured(args, folder, {})
         for names in groups:
@@ -94,8 +89,7 @@ def main():
                 found += 1
                 for sizes, size, time, peak, told in steps[-3:]:
                     listed = ", ".join(f"{name} {number}" for name, number in sizes.items())
-                    print(f"| {' and '.join(names)} | {listed} | {size} | {time:.3f} | {peak:.1f} "
-                          f"| {told} |", flush=True)
+                    row(" and ".join(names), listed, size, f"{time:.3f}", f"{peak:.1f}", told)
     print(f"\n{len(groups)} groups of dimensions, {found} to look at")
     return 0
 

@@ -9,47 +9,35 @@ take turns. Rates are millions a second, of median times. A ratio is that of a r
 row names. Status 1 where a program doesn't end well.
 """
 
-import argparse
 import os
-import sys
 import tempfile
 
-from measure import machine, median, run
+from timing import Failed, end, ended, head, machine, median, options, row
 
 
-def micros_of(args, command):
-    """The work that a run did and the microseconds that it took; None where it doesn't end well."""
+def rate_of(args, command):
+    """The work that a run did in a microsecond."""
     with tempfile.NamedTemporaryFile() as out:
-        found = run(command, args.seconds, out.name)
+        ended(command, args.seconds, (0,), out.name)
         words = open(out.name, encoding="ascii").read().split()
-    if found.status != 0 or len(words) != 4:
-        print(f"{' '.join(command)}: status {found.status} {found.err}", file=sys.stderr)
-        return None
-    return int(words[1]), int(words[3])
+    if len(words) != 4:
+        raise Failed(f"{' '.join(command)}: {' '.join(words)}")
+    return int(words[1]) / max(int(words[3]), 1)
 
 
-def rates_of(args, commands):
-    """The median rate of each command, and its slowest and quickest; None where one doesn't end well."""
+def print_rows(args, name, commands, beside):
+    """Prints a row for each program: its median rate, the slowest and quickest, and the ratio to the one beside it."""
     runs = {who: [] for who in commands}
     for _ in range(args.runs):
         for who, command in commands.items():
-            told = micros_of(args, command)
-            if told is None:
-                return None
-            runs[who].append(told[0] / max(told[1], 1))
-    return {who: (median(found), min(found), max(found)) for who, found in runs.items()}
-
-
-def print_rows(name, rates, beside):
-    """Prints a row for each program, with its ratio to the plain program beside it."""
-    for who, (rate, least, most) in rates.items():
-        ratio = f"{rate / rates[beside[who]][0]:.2f} of {beside[who]}" if who in beside else ""
-        print(f"| {name} | {who} | {rate:.1f} | {least:.1f} | {most:.1f} | {ratio} |", flush=True)
+            runs[who].append(rate_of(args, command))
+    for who, found in runs.items():
+        ratio = f"{median(found) / median(runs[beside[who]]):.2f} of {beside[who]}" if who in beside else ""
+        row(name, who, f"{median(found):.1f}", f"{min(found):.1f}", f"{max(found):.1f}", ratio)
 
 
 def mailboxes(args):
     """Growths from one thread to another, on two processors."""
-    pinned = ["/usr/bin/taskset", "-c", args.processors]
     commands = {
         "RingMail": [args.program, "ring"],
         "QueueMail": [args.program, "queue"],
@@ -57,53 +45,46 @@ def mailboxes(args):
         "plain ring, one order": [args.baseline, "one-order"],
         "plain channel": [args.baseline, "channel"],
     }
-    count = str(args.count or 10_000_000)
-    rates = rates_of(args, {who: [*pinned, *words, count] for who, words in commands.items()})
-    if rates is not None:
-        print_rows("2", rates, {"RingMail": "plain ring, one order", "QueueMail": "plain channel"})
-    return rates is not None
+    pinned, count = ["/usr/bin/taskset", "-c", args.processors], str(args.count or 10_000_000)
+    print_rows(args, "2", {who: [*pinned, *words, count] for who, words in commands.items()},
+               {"RingMail": "plain ring, one order", "QueueMail": "plain channel"})
 
 
 def ledgers(args):
     """Owe, clear and leave, by each number of threads."""
-    fine = True
+    commands = {
+        "WordLedger": [args.program, "words"],
+        "LockLedger": [args.program, "lock"],
+        "plain words": [args.baseline, "words"],
+        "plain lock": [args.baseline, "lock"],
+    }
     for threads in args.threads.split():
         count = str((args.count or 4_000_000) // int(threads))
-        commands = {
-            "WordLedger": [args.program, "words"],
-            "LockLedger": [args.program, "lock"],
-            "plain words": [args.baseline, "words"],
-            "plain lock": [args.baseline, "lock"],
-        }
-        commands = {who: [*words, threads, count] for who, words in commands.items()}
-        rates = rates_of(args, commands)
-        fine = fine and rates is not None
-        if rates is not None:
-            print_rows(threads, rates, {"WordLedger": "plain words", "LockLedger": "plain lock"})
-    return fine
+        print_rows(args, threads, {who: [*words, threads, count] for who, words in commands.items()},
+                   {"WordLedger": "plain words", "LockLedger": "plain lock"})
 
 
 WHAT = {"mailboxes": mailboxes, "ledgers": ledgers}
 
 
+def table(args):
+    """Prints the rows of one of these; raises where a program doesn't end well."""
+    print(f"{args.what}, millions a second, medians of {args.runs} runs of each program in turn; {machine(args)}")
+    head("threads | program | rate | slowest | quickest | ratio")
+    WHAT[args.what](args)
+    print(f"\nload at the end {os.getloadavg()[0]:.1f}")
+    return True
+
+
 def main():
-    parser = argparse.ArgumentParser(description=__doc__.split("\n", maxsplit=1)[0])
+    parser = options(__doc__, "program baseline", runs=9)
     parser.add_argument("what", choices=WHAT)
-    parser.add_argument("--program", required=True, help="the proved program")
-    parser.add_argument("--baseline", required=True, help="the plain one")
     parser.add_argument("--processors", default="0,1", help="on which mailboxes are measured")
     parser.add_argument("--threads", default="1 2 4", help="by how many ledgers are")
     parser.add_argument("--count", type=int, help="growths, or rounds of all threads together")
-    parser.add_argument("--runs", type=int, default=9)
-    parser.add_argument("--seconds", type=float, default=60.0, help="time limit of a run")
-    parser.add_argument("--commit", default="none", help="recorded with the figures")
     args = parser.parse_args()
-    print(f"{args.what}, millions a second, medians of {args.runs} runs of each program in turn; {machine(args)}")
-    print("| threads | program | rate | slowest | quickest | ratio |\n|---|---|---|---|---|---|")
-    fine = WHAT[args.what](args)
-    print(f"\nload at the end {os.getloadavg()[0]:.1f}")
-    return 0 if fine else 1
+    end(lambda: table(args))
 
 
 if __name__ == "__main__":
-    sys.exit(main())
+    main()

@@ -9,27 +9,20 @@ line that is refused; outputs go there too. Times are best wall times of some ru
 programs take turns. Arguments may follow PATH.
 """
 
-import argparse
 import collections
 import filecmp
 import math
 import os
 import shlex
-import sys
 
-from measure import machine, run
+from timing import Failed, end, ended, head, machine, options, row, run
 
 # What is wanted of the longest schedule: seconds, and MiB.
 MOST_SECONDS = 3.0
 MOST_MEMORY = 1024
 
-HEAD = ("| owners | events | done | `nllc` s | reading s | events s | ns an event | partner s | partner's events s "
-        "| ratio | `nllc` MiB | partner MiB |\n"
-        "|---|---|---|---|---|---|---|---|---|---|---|---|")
-
-
-class Failed(Exception):
-    """A run that didn't end as it should."""
+COLUMNS = ("owners | events | done | `nllc` s | reading s | events s | ns an event | partner s | partner's events s "
+           "| ratio | `nllc` MiB | partner MiB")
 
 
 class Row:
@@ -72,17 +65,15 @@ class Row:
         beyond = {who: whole[who] - self.best[who, "refused"] for who in whole}
         each = f"{beyond['nllc'] / self.events * 1e9:.0f}" if self.events else ""
         ratio = f"{beyond['nllc'] / beyond['partner']:.2f}" if self.events and beyond["partner"] > 0 else ""
-        print(f"| {self.owners} | {self.events:,} | {self.done:,} | {whole['nllc']:.3f} "
-              f"| {self.best['nllc', 'refused']:.3f} | {beyond['nllc']:.3f} | {each} | {whole['partner']:.3f} "
-              f"| {beyond['partner']:.3f} | {ratio} | {self.peak['nllc']:.1f} | {self.peak['partner']:.1f} |", flush=True)
+        row(self.owners, f"{self.events:,}", f"{self.done:,}", f"{whole['nllc']:.3f}", f"{self.best['nllc', 'refused']:.3f}",
+            f"{beyond['nllc']:.3f}", each, f"{whole['partner']:.3f}", f"{beyond['partner']:.3f}", ratio,
+            f"{self.peak['nllc']:.1f}", f"{self.peak['partner']:.1f}")
 
 
 def print_values(args):
     """Prints what `values` of the text takes."""
     command = [*args.programs["nllc"], "values", args.text]
-    found = [run(command, args.seconds) for _ in range(args.runs)]
-    if any(one.status != 0 for one in found):
-        raise Failed(f"{' '.join(command)}: {found}")
+    found = [ended(command, args.seconds, (0,)) for _ in range(args.runs)]
     print(f"\n`values` of the same text: {min(one.wall for one in found):.3f} s, "
           f"{max(one.peak for one in found):.1f} MiB.")
 
@@ -97,41 +88,35 @@ def print_wanted(rows):
           f"{'yes' if memory else 'no'}.")
 
 
+def tables(args):
+    """Prints all rows, and whether what is wanted is met; raises where a run goes wrong."""
+    rows = [Row(args, int(owners), int(events)) for owners in args.owners.split() for events in args.events.split()]
+    for _ in range(args.runs):
+        for one in rows:
+            for suffix in ("schedule", "refused"):
+                for who in args.programs:
+                    one.take(who, suffix)
+    head(COLUMNS)
+    for one in rows:
+        one.check()
+        one.print()
+    print_values(args)
+    print_wanted(rows)
+    print(f"Load at the end {os.getloadavg()[0]:.1f}.")
+    return True
+
+
 def main():
-    parser = argparse.ArgumentParser(description=__doc__.split("\n", maxsplit=1)[0])
-    parser.add_argument("--nllc", required=True)
-    parser.add_argument("--baseline", required=True)
+    parser = options(__doc__, "nllc baseline owners deal", owners="2 16")
     parser.add_argument("--text", required=True)
     parser.add_argument("--schedules", required=True, help="folder of the schedules, and for outputs")
-    parser.add_argument("--owners", default="2 16")
     parser.add_argument("--events", default="0 250000 500000 1000000")
-    parser.add_argument("--deal", choices=["round", "blocks"], default="round")
-    parser.add_argument("--runs", type=int, default=3)
-    parser.add_argument("--seconds", type=float, default=60.0, help="time limit of a run")
-    parser.add_argument("--commit", default="none", help="recorded with the figures")
     args = parser.parse_args()
     args.programs = {"nllc": shlex.split(args.nllc), "partner": shlex.split(args.baseline)}
     print(f"`replay` of `{os.path.basename(args.text)}`, {os.path.getsize(args.text) / (1 << 20):.2f} MiB, best wall "
           f"seconds of {args.runs} runs of each program in turn; {machine(args)}")
-    rows = [Row(args, int(owners), int(events)) for owners in args.owners.split() for events in args.events.split()]
-    try:
-        for _ in range(args.runs):
-            for row in rows:
-                for suffix in ("schedule", "refused"):
-                    for who in args.programs:
-                        row.take(who, suffix)
-        print(HEAD)
-        for row in rows:
-            row.check()
-            row.print()
-        print_values(args)
-    except Failed as failed:
-        print(failed, file=sys.stderr)
-        return 1
-    print_wanted(rows)
-    print(f"Load at the end {os.getloadavg()[0]:.1f}.")
-    return 0
+    end(lambda: tables(args))
 
 
 if __name__ == "__main__":
-    sys.exit(main())
+    main()

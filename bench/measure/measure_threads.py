@@ -8,16 +8,13 @@ refused. The seconds are those of `check`, less those of the refused text: best 
 which the programs take turns. Arguments may follow PATH.
 """
 
-import argparse
 import filecmp
 import math
 import os
 import shlex
-import sys
 from collections import Counter, namedtuple
 
-from measure import machine, run
-from measure_owners import groups_of
+from timing import Failed, end, ended, groups_of, head, machine, numbers_in, options, row
 
 # Stands among numbers of owners for one thread that has no owners.
 ONE = 0
@@ -42,16 +39,11 @@ NOISE = 0.03
 
 MIB = 1 << 20
 
-HEAD = ("| text | owners | grown | received | `nllc` s | bar s | partner s | ratio | growths a second "
-        "| `nllc` MiB | partner MiB | ratio | not met |\n"
-        "|---|---|---|---|---|---|---|---|---|---|---|---|---|")
+COLUMNS = ("text | owners | grown | received | `nllc` s | bar s | partner s | ratio | growths a second "
+           "| `nllc` MiB | partner MiB | ratio | not met")
 
 # The sums and the peaks of one number of owners.
 Figures = namedtuple("Figures", "seconds peaks counts")
-
-
-class Failed(Exception):
-    """A run that didn't end as it should."""
 
 
 def command_of(program, command, text, owners, deal):
@@ -63,20 +55,11 @@ def refused_of(text):
     return os.path.join(os.path.dirname(text), "refused", os.path.basename(text))
 
 
-def ended(args, command, statuses, out=os.devnull):
-    """A run that ends with one of these statuses."""
-    found = run(command, args.seconds, out)
-    if found.status not in statuses:
-        told = f"past {args.seconds:.0f} s" if found.status is None else f"status {found.status}"
-        raise Failed(f"{' '.join(command)}: {told} {found.err}")
-    return found
-
-
 def time_of(args, program, text, kind, deal):
     """The time of a program to read and refuse a text, or to answer `check` by so many owners."""
     if kind == READING:
-        return ended(args, command_of(program, "check", refused_of(text), ONE, deal), (2,)).wall
-    return ended(args, command_of(program, "check", text, kind, deal), (0, 1)).wall
+        return ended(command_of(program, "check", refused_of(text), ONE, deal), args.seconds, (2,)).wall
+    return ended(command_of(program, "check", text, kind, deal), args.seconds, (0, 1)).wall
 
 
 def best_times(args, text, deal):
@@ -96,7 +79,7 @@ def values_peaks(args, text, owners, deal):
     for who, program in args.programs.items():
         is_first = owners == ONE and who == "nllc"
         out = want if is_first else os.path.join(args.outputs, who)
-        peaks[who] = ended(args, command_of(program, "values", text, owners, deal), (0,), out).peak
+        peaks[who] = ended(command_of(program, "values", text, owners, deal), args.seconds, (0,), out).peak
         if not filecmp.cmp(want, out, shallow=False):
             raise Failed(f"UNLIKE values of {who}, {owners} owners, {text}")
     return peaks
@@ -107,10 +90,8 @@ def counts_of(args, text, owners, deal):
     if owners == ONE:
         return {"grown": 0, "received": 0}
     out = os.path.join(args.outputs, "counts")
-    ended(args, command_of(args.programs["partner"], "counts", text, owners, deal), (0,), out)
-    with open(out, encoding="ascii") as file:
-        words = file.read().split()
-    return dict(zip(words[::2], map(int, words[1::2])))
+    ended(command_of(args.programs["partner"], "counts", text, owners, deal), args.seconds, (0,), out)
+    return numbers_in(out)
 
 
 def add_text(args, found, text, deal):
@@ -189,11 +170,9 @@ def print_row(name, found, owners, verdicts):
     pace = rounded(growths / seconds["nllc"]) if growths and seconds["nllc"] > 0 else ""
     bar = f"{bar_of(found, owners):.4f}" if owners != ONE else ""
     missed = [what + ("?" if met is None else "") for what, met in verdicts.items() if met is not True]
-    print(f"| {name} | {owners if owners != ONE else 'one thread'} | {counts['grown'] or ''} "
-          f"| {counts['received'] if owners != ONE else ''} | {seconds['nllc']:.4f} | {bar} "
-          f"| {seconds['partner']:.4f} | {ratio(seconds['nllc'], seconds['partner'])} | {pace} "
-          f"| {peak['nllc']:.1f} | {peak['partner']:.1f} | {ratio(peak['nllc'], peak['partner'])} "
-          f"| {', '.join(missed)} |", flush=True)
+    row(name, owners if owners != ONE else "one thread", counts["grown"] or "", counts["received"] if owners != ONE else "",
+        f"{seconds['nllc']:.4f}", bar, f"{seconds['partner']:.4f}", ratio(seconds["nllc"], seconds["partner"]), pace,
+        f"{peak['nllc']:.1f}", f"{peak['partner']:.1f}", ratio(peak["nllc"], peak["partner"]), ", ".join(missed))
 
 
 def print_group(args, name, texts, verdicts):
@@ -204,7 +183,7 @@ def print_group(args, name, texts, verdicts):
         for text in texts:
             add_text(args, found, text, deal)
     except Failed as failed:
-        print(f"| {name} |  |  |  |  |  |  |  |  |  |  |  | {failed} |", flush=True)
+        row(name, *[""] * 11, failed)
         return False
     for owners in args.counts:
         verdicts[name, owners] = judge(name, found, owners)
@@ -226,39 +205,33 @@ WANTED = {
 
 def print_wanted(verdicts):
     """Prints of each wanted figure in how many rows it is met, and in which it isn't."""
-    print("\n| wanted | met | not met | too close to tell |\n|---|---|---|---|")
+    print()
+    head("wanted | met | not met | too close to tell")
     for what, words in WANTED.items():
         rows = {row: found[what] for row, found in verdicts.items() if what in found}
         named = {met: [f"{name} {owners or 'one thread'}" for (name, owners), told in rows.items() if told is met]
                  for met in (True, False, None)}
-        print(f"| {words} | {len(named[True])} of {len(rows)} | {', '.join(named[False])} "
-              f"| {', '.join(named[None])} |")
+        row(words, f"{len(named[True])} of {len(rows)}", ", ".join(named[False]), ", ".join(named[None]))
 
 
-def main():
-    parser = argparse.ArgumentParser(description=__doc__.split("\n", maxsplit=1)[0])
-    parser.add_argument("--nllc", required=True)
-    parser.add_argument("--baseline", required=True)
-    parser.add_argument("--texts", required=True, help="folder of facts texts, some rows for each")
-    parser.add_argument("--inputs", help="folder of facts texts that are one row together")
-    parser.add_argument("--outputs", required=True, help="folder for what is printed and compared")
-    parser.add_argument("--owners", default="1 2 4 16")
-    parser.add_argument("--deal", choices=["round", "blocks"], default="round")
-    parser.add_argument("--runs", type=int, default=3)
-    parser.add_argument("--seconds", type=float, default=60.0, help="time limit of a run")
-    parser.add_argument("--commit", default="none", help="recorded with the figures")
-    args = parser.parse_args()
-    args.programs = {"nllc": shlex.split(args.nllc), "partner": [args.baseline, "threads"]}
-    args.counts = [ONE, *map(int, args.owners.split())]
+def tables(args):
+    """Prints all tables. Answers whether all runs ended with the same answers."""
     print(f"`check` beyond reading by owners in threads, best wall seconds of {args.runs} runs of each program in "
           f"turn; {machine(args)}")
-    print(HEAD)
+    head(COLUMNS)
     verdicts = {}
     fine = [print_group(args, name, texts, verdicts) for name, texts in groups_of(args)]
     print_wanted(verdicts)
     print(f"\nLoad at the end {os.getloadavg()[0]:.1f}.")
-    return 0 if fine and all(fine) else 1
+    return fine and all(fine)
+
+
+def main():
+    args = options(__doc__, "nllc baseline texts inputs outputs owners deal").parse_args()
+    args.programs = {"nllc": shlex.split(args.nllc), "partner": [args.baseline, "threads"]}
+    args.counts = [ONE, *map(int, args.owners.split())]
+    end(lambda: tables(args))
 
 
 if __name__ == "__main__":
-    sys.exit(main())
+    main()

@@ -9,19 +9,17 @@ of 100 files.
 
 import argparse
 import os
-import pathlib
 import statistics
 import subprocess
-import sys
 import tempfile
 import time
 from typing import NamedTuple
 
-ROOT = pathlib.Path(__file__).resolve().parent.parent.parent
-SUITE = ROOT / "frontend" / "tests" / "errors"
-sys.path[:0] = [str(ROOT / "frontend" / "tests")]
+import errors_support as support
+from paths import ROOT
+from timing import head
 
-import errors_support as support  # noqa: E402 (the path stands above)
+SUITE = ROOT / "frontend" / "tests" / "errors"
 
 
 class Cost(NamedTuple):
@@ -61,8 +59,7 @@ def main():
     parser.add_argument("--every", type=int, default=1, help="each Nth file; 1")
     asked = parser.parse_args()
     pairs = [costs_of(file, asked.nllc) for file in support.sources()[::asked.every]]
-    print("| Command | Files | Seconds, median | 95 of 100 | Processor seconds, median | 95 of 100 |")
-    print("|---|---|---|---|---|---|")
+    head("Command | Files | Seconds, median | 95 of 100 | Processor seconds, median | 95 of 100")
     print(row("`rustc`", [plain for plain, _ in pairs]))
     print(row("`./nllc.sh rust`", [whole for _, whole in pairs]))
 

@@ -22,16 +22,11 @@ import tempfile
 from dataclasses import dataclass, field
 from functools import partial
 
-HERE = os.path.dirname(os.path.abspath(__file__))
-ROOT = os.path.dirname(os.path.dirname(HERE))
-sys.path[:0] = [HERE, os.path.join(ROOT, "frontend", "tests")]
-
-import errors_support as support  # noqa: E402 (the paths stand above)
-from changes import NAMED, Edit, changed, edited  # noqa: E402
-from rust_text import functions_of  # noqa: E402
-from sources import CRATES, Missing, crate_of  # noqa: E402
-
-from nllc_tools.rustc import functions  # noqa: E402
+import errors_support as support
+from changes import NAMED, Edit, changed, edited
+from rust_text import functions_of
+from nllc_tools.rustc import functions
+from sources import CRATES, Missing, crate_of
 
 MOST_TRIES = 8              # of changes of one function
 MOST_ROUNDS = 20            # of rustc on one crate, until it refuses no change early

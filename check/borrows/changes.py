@@ -5,7 +5,7 @@ An edit is where it begins and ends in the file's text, and what stands there in
 
 import re
 from random import Random
-from typing import Callable, Iterator, NamedTuple
+from typing import Callable, Iterator, NamedTuple, Optional
 
 from rust_text import Block, Function
 
@@ -120,16 +120,22 @@ def forever(function: Function, text: str, draw: Random) -> list[Edit]:
         f" let _: &'static _ = &{variable.name};"]), ""))
 
 
+def drawn_variable(function: Function, blocks: list[Block], draw: Random) -> tuple[Block, Optional[Variable]]:
+    """One of the blocks, and one of its variables, or None."""
+    block = draw.choice(blocks) if blocks else function.body
+    found = variables(function, block) if blocks else []
+    return block, draw.choice(found) if found else None
+
+
+def one_of(found: list[Edit], draw: Random) -> list[Edit]:
+    return [draw.choice(found)] if found else []
+
+
 def between(function: Function, draw: Random, make: Callable[[Variable], tuple[str, str]]) -> list[Edit]:
     """Two insertions in one block, made of a variable: at a statement's end, and at that of a later one."""
-    blocks = [block for block in function.blocks if len(block.ends) > 1]
-    if not blocks:
+    block, variable = drawn_variable(function, [block for block in function.blocks if len(block.ends) > 1], draw)
+    if variable is None:
         return []
-    block = draw.choice(blocks)
-    known = variables(function, block)
-    if not known:
-        return []
-    variable = draw.choice(known)
     ends = [end for end in [block.begin, *block.ends] if end >= variable.known_from]
     if len(ends) < 2:
         return []
@@ -163,12 +169,9 @@ def out_of_block(function: Function, text: str, draw: Random) -> list[Edit]:
 def without_copy(function: Function, text: str, draw: Random) -> list[Edit]:
     """A `.clone()` is taken out."""
     tokens = function.tokens
-    found = [at for at in range(len(tokens) - 3) if tokens[at].text == "." and tokens[at + 1].text in COPIES
-             and tokens[at + 2].text == "(" and tokens[at + 3].text == ")"]
-    if not found:
-        return []
-    at = draw.choice(found)
-    return [Edit(tokens[at].begin, tokens[at + 3].end, "")]
+    return one_of([Edit(tokens[at].begin, tokens[at + 3].end, "") for at in range(len(tokens) - 3)
+                   if tokens[at].text == "." and tokens[at + 1].text in COPIES
+                   and tokens[at + 2].text == "(" and tokens[at + 3].text == ")"], draw)
 
 
 def moved_behind(function: Function, text: str, draw: Random) -> list[Edit]:
@@ -197,15 +200,15 @@ def other_lifetime(function: Function, text: str, draw: Random) -> list[Edit]:
 def without_name(function: Function, text: str, draw: Random) -> list[Edit]:
     """`&'a` loses its name."""
     head = function.head
-    found = [two for one, two in zip(head, head[1:]) if one.text == "&" and two.kind == "lifetime"]
-    return [Edit(token.begin, token.end, "") for token in draw.sample(found, min(len(found), 1))]
+    return one_of([Edit(two.begin, two.end, "") for one, two in zip(head, head[1:])
+                   if one.text == "&" and two.kind == "lifetime"], draw)
 
 
 def without_bound(function: Function, text: str, draw: Random) -> list[Edit]:
     """A bound by a lifetime is dropped."""
     head = function.head
-    found = [(one, two) for one, two in zip(head, head[1:]) if one.text in (":", "+") and two.kind == "lifetime"]
-    return [Edit(one.begin, two.end, "") for one, two in draw.sample(found, min(len(found), 1))]
+    return one_of([Edit(one.begin, two.end, "") for one, two in zip(head, head[1:])
+                   if one.text in (":", "+") and two.kind == "lifetime"], draw)
 
 
 def more_mutable(function: Function, text: str, draw: Random) -> list[Edit]:
@@ -216,14 +219,14 @@ def more_mutable(function: Function, text: str, draw: Random) -> list[Edit]:
              if one.text == "&" and two.kind == "word" and two.text != "mut" and text[one.begin - 1] in " (["]
     found += [Edit(two.begin, two.end, MUTABLE[two.text]) for one, two in inside
               if one.text == "." and two.text in MUTABLE]
-    return [draw.choice(found)] if found else []
+    return one_of(found, draw)
 
 
 def less_mutable(function: Function, text: str, draw: Random) -> list[Edit]:
     """A `mut` is taken out."""
     found = [Edit(token.begin, token.end + 1, "") for token in function.tokens
              if token.text == "mut" and token.begin > function.body.begin and text[token.end].isspace()]
-    return [draw.choice(found)] if found else []
+    return one_of(found, draw)
 
 
 def other_move(function: Function, text: str, draw: Random) -> list[Edit]:
@@ -232,7 +235,7 @@ def other_move(function: Function, text: str, draw: Random) -> list[Edit]:
     found = [Edit(one.begin, two.begin, "") for one, two in zip(tokens, tokens[1:]) if one.text == "move"]
     found += [Edit(two.begin, two.begin, "move ") for one, two in zip(tokens, tokens[1:])
               if two.text == "|" and two.kind == "sign" and one.text in ("(", ",", "=", "return")]
-    return [draw.choice(found)] if found else []
+    return one_of(found, draw)
 
 
 def in_a_loop(function: Function, text: str, draw: Random) -> list[Edit]:
@@ -259,12 +262,9 @@ def around_a_statement(function: Function, text: str, draw: Random, begin: str, 
 
 def used_again(function: Function, text: str, draw: Random) -> list[Edit]:
     """A variable is looked at once more, behind a statement that may have moved it."""
-    blocks = [block for block in function.blocks if block.ends]
-    block = draw.choice(blocks) if blocks else None
-    known = variables(function, block) if block else []
-    if not known:
+    block, variable = drawn_variable(function, [block for block in function.blocks if block.ends], draw)
+    if variable is None:
         return []
-    variable = draw.choice(known)
     ends = [end for end in block.ends if end >= variable.known_from]
     return [Edit(ends[-1], ends[-1], f" let _ = &{variable.name};")] if ends else []
 

@@ -2,33 +2,16 @@
 
 import glob
 import os
+import pathlib
 import subprocess
 import tempfile
 import tomllib
 from dataclasses import dataclass, field
 
 REGISTRY = "/usr/share/cargo/registry"
-# A crate, the features by which it is compiled, and the crates that it uses.
-CRATES = {
-    "itoa": ((), ()), "semver": (("std",), ()), "either": (("use_std",), ()), "strsim": ((), ()),
-    "heck": ((), ()),
-    "smallvec": ((), ()), "memchr": (("std",), ()), "httparse": (("std",), ()), "slab": (("std",), ()),
-    "arrayvec": (("std",), ()), "fixedbitset": (("std",), ()), "bytes": (("std",), ()), "textwrap": ((), ()),
-    "humantime": ((), ()), "percent-encoding": (("alloc",), ()), "unicode-segmentation": ((), ()),
-    "hashbrown": (("raw",), ()), "indexmap": (("std",), ("hashbrown",)),
-    "itertools": (("use_std", "use_alloc"), ("either",)),
-    "minimal-lexical": (("std",), ()), "nom": (("std", "alloc"), ("memchr", "minimal-lexical")),
-    "aho-corasick": (("std",), ("memchr",)), "adler": ((), ()), "miniz_oxide": (("with-alloc",), ("adler",)),
-    "regex-syntax": (("unicode",), ()), "regex": (("std", "perf"), ("aho-corasick", "memchr", "regex-syntax")),
-    "petgraph": (("graphmap", "stable_graph", "matrix_graph"), ("fixedbitset", "indexmap")),
-    "combine": (("std", "alloc"), ("bytes", "memchr")), "bumpalo": (("collections",), ()), "smawk": ((), ()),
-    "termcolor": ((), ()), "scopeguard": (("use_std",), ()), "owning_ref": ((), ("stable_deref_trait",)),
-    "stable_deref_trait": (("std", "alloc"), ()), "futures-core": (("std", "alloc"), ()), 
-    "unicode-ident": ((), ()), "proc-macro2": ((), ("unicode-ident",)), "quote": ((), ("proc-macro2",)),
-    "syn": (("full", "parsing", "printing", "derive", "clone-impls", "visit"),
-            ("proc-macro2", "quote", "unicode-ident")),
-    "once_cell": (("std",), ()), "lazy_static": ((), ()),
-}
+LISTED = [line.partition("|") for line in pathlib.Path(__file__).with_name("crates.txt").read_text().splitlines()[1:]]
+# The features by which each crate is compiled, and the crates that it uses.
+CRATES = {named.split()[0]: (named.split()[1:], uses.split()) for named, _, uses in LISTED}
 # What a crate's build script would tell rustc.
 CONFIGURED = {"indexmap": ["has_std"], "semver": [], "proc-macro2": ["wrap_proc_macro_disabled"]}
 

@@ -11,28 +11,15 @@ Standard output, status and standard error must be those of the model (`referenc
 owners grow in the order of the program; and at the balance 0 the value lines must be those of `nllc values`. Each
 text is also asked for with arguments that are refused: a usage line.
 
-With `--model` the model is compared with itself: see `ModelComparison`. Saves what differs, cut down to the events
+With `--model` the model is compared with itself: see `Models`. Saves what differs, cut down to the events
 and lines that matter, and ends with `N compared, M differ`; status 1 where M isn't 0. Arguments may follow PATH.
 """
 
-import argparse
 import functools
-import multiprocessing
 import os
 import random
-import shlex
 import sys
-import tempfile
 
-import generate
-import random_schedule
-import small_mir  # puts check/reference/ on the path
-import worked_replays
-from compare_owners import crowded
-from compare_threads import FILE, cut_of, region_count, spread_words
-from differential import ended, memory_folder
-
-import reference
 import reference_text
 from reference_order import ProgramOrder, RandomOrder
 from reference_owner import Wrong
@@ -40,11 +27,13 @@ from reference_schedule import Schedule
 from reference_solve import asked_by, solve
 from reference_world import Asked
 
+import random_schedule
+from comparing import FILE, Comparison, Difference, compare_all, options, without_lines, write
+from random_cut import cut_of, region_count, small_text, spread_words
+from text_tables import cases, lines_of, text_of
+
 # Options that are refused beside a schedule, whatever the text.
-USAGES = [["--owners", "0"], ["--owners", "65"], ["--owners", "x"], ["--owners=01"], ["--owners"], ["--deal", "random"],
-          ["--deal="], ["--owners", "1", "--owners", "1"], ["--deal=round", "--deal", "round"], ["--cut"],
-          ["--cut", "x", "--deal", "round"], ["--mail", "queue"], ["--mail=ring"], ["--owner", "2"],
-          ["--schedules", "x"], ["--schedule", "x"], ["--schedule=x"], ["--schedule"]]
+USAGES = [line.decode().split(" ") for line in lines_of("wrong", "replay_options")]
 
 # Words that are refused: a command and its options.
 REFUSED = [("replay", []), ("replay", ["--schedule"]), ("replay", ["--owners", "2"]), ("values", ["--schedule", "x"]),
@@ -53,20 +42,12 @@ REFUSED = [("replay", []), ("replay", ["--schedule"]), ("replay", ["--owners", "
 MOST_EVENTS = [20, 200, 2_000, 4_000]
 
 
-def text_of(rng):
-    """A small text of either format."""
-    kind = rng.choice(["facts", "facts", "crowded", "mir"])
-    source = small_mir if kind == "mir" else generate
-    text = crowded(rng) if kind == "crowded" else source.small(rng)
-    return source.mutant(rng, text) if rng.random() < 0.1 else text
-
-
 class Case:
     """A text, how it is dealt, and a schedule."""
 
     def __init__(self, seed, folder, most):
         rng = random.Random(seed)
-        self.text = text_of(rng)
+        self.text = small_text(rng, 0.1)
         self.owners = min(most, rng.choice([1, 2, 2, 3, 4, 5, rng.randint(1, 16), 16, rng.choice([16, 64])]))
         self.deal = rng.choice(["round", "round", "blocks"])
         self.cut = self.cut_path = self.schedule = None
@@ -102,81 +83,64 @@ class Case:
             pairs.append(["--owners", str(self.owners)])
         return spread_words(rng, pairs)
 
-    def files(self):
-        """The paths and the bytes of the cut file and of the schedule; None for no file."""
-        return [(self.cut_path, self.cut)] * (self.cut_path is not None) + [(self.schedule_path, self.schedule)]
-
-    def write(self, text_path):
-        for path, said in [(text_path, self.text), *self.files()]:
-            if os.path.exists(path):
-                os.remove(path)
-            if said is not None:
-                with open(path, "wb") as file:
-                    file.write(said)
-
     def shrunk(self, differs):
         """Takes out lines that a difference doesn't need, ever smaller pieces of the schedule and of the text. How often
         it is tried is limited."""
         for name in ("schedule", "text", "schedule", "text"):
             tries = iter(range(300))
-            size = 0 if getattr(self, name) is None else 1 << 20
+            size = 0 if getattr(self, name) is None else getattr(self, name).count(b"\n")
             while size and next(tries, None) is not None:
-                lines = getattr(self, name).split(b"\n")
-                size = min(size, len(lines) - 1)
-                self.without(name, lines, size, differs, tries)
+                self.without(name, size, differs, tries)
                 size //= 2
 
-    def without(self, name, lines, size, differs, tries):
+    def without(self, name, size, differs, tries):
         """Takes out pieces of so many lines, the last first, where the rest differs too."""
-        at = len(lines) - size
-        while at > 0 and next(tries, None) is not None:
-            fewer = lines[:at] + lines[at + size:]
-            setattr(self, name, b"\n".join(fewer))
-            if differs(self):
-                lines = fewer
-            at -= size
-        setattr(self, name, b"\n".join(lines))
+        def still_differs(fewer):
+            setattr(self, name, fewer)
+            return bool(fewer) and differs(self)
+
+        setattr(self, name, without_lines(getattr(self, name), still_differs, size, tries))
+
+    def write(self, text_path):
+        """Writes the files, and gives what is saved of them."""
+        write(text_path, self.text)
+        write(self.schedule_path, self.schedule)
+        if self.cut_path is not None:
+            write(self.cut_path, self.cut)
+        return {".text": self.text, ".cut": self.cut, ".schedule": self.schedule}
 
 
-class Comparison:
-    """What a worker process needs to compare one case after the other."""
-
-    def __init__(self, args):
-        self.args = args
-        self.folder = tempfile.TemporaryDirectory(dir=memory_folder())
-        self.path = os.path.join(self.folder.name, "text")
-
-    def ask(self, command, words=(FILE,)):
-        words = [self.path if word == FILE else word for word in words]
-        return ended([*shlex.split(self.args.nllc), command, *words], self.args.seconds)
+class Replays(Comparison):
+    """The answers by the program and by the model."""
 
     def answers(self, case):
         """The answers to a case by the name of who gave them."""
         case.write(self.path)
-        found = {"nllc": self.ask("replay", case.words), "model": case.asked().answer()}
-        lines, parting, values = found["nllc"][0].partition(b"\nbalance 0\n")
+        found = {"nllc": self.ask(self.args.nllc, "replay", case.words), "model": case.asked().answer()}
+        lines, parting, _ = (b"\n" + found["nllc"][0]).partition(b"\nbalance 0\n")
         if parting:
-            found["nllc values"] = lines + parting + self.ask("values")[0], 0, b""
-        elif found["nllc"][0].startswith(b"balance 0\n"):
-            found["nllc values"] = b"balance 0\n" + self.ask("values")[0], 0, b""
+            found["nllc values"] = (lines + parting)[1:] + self.ask(self.args.nllc, "values")[0], 0, b""
         return found
 
     def differs(self, case):
         return len(set(self.answers(case).values())) > 1
 
-    def difference(self, case):
+    def differing(self, case):
         """The words on which answers differ and these answers, or None."""
         if self.differs(case):
             case.shrunk(self.differs)
             return ["replay", *case.words], self.answers(case)
-        command, options = case.refused
-        out, status, err = self.ask(command, [FILE, *options])
-        if out or status != 2 or not err.startswith(b"usage: "):
-            return [command, FILE, *options], {"nllc": (out, status, err), "wanted": (b"", 2, b"usage: ..")}
-        return None
+        command, words = case.refused
+        return self.usage(command, [FILE, *words])
+
+    def difference(self, seed):
+        case = Case(seed, self.folder.name, self.args.most)
+        found = self.differing(case)
+        on = found and f"{' '.join(found[0])}, {case.owners} owners,"
+        return found and Difference(on, found[1], case.write(self.path))
 
 
-class ModelComparison:
+class Models(Comparison):
     """Compares the model with the definitions, and with itself in other orders.
 
     At random moments the state must be sound: the balance is what is under way, what one owner grew for another is
@@ -185,10 +149,6 @@ class ModelComparison:
     the order in which owners grow.
     """
 
-    def __init__(self, args):
-        self.folder = tempfile.TemporaryDirectory(dir=memory_folder())
-        self.args = args
-
     def run(self, case, order, seed):
         """Raises where a run in an order is wrong. A text, a cut file or a schedule that is refused has no run."""
         rng = random.Random(seed)
@@ -196,7 +156,7 @@ class ModelComparison:
         if world is None or case.schedule is None:
             return
         try:
-            events = reference_text.read(case.schedule, Schedule(case.owners)).events
+            events = reference_text.read(case.schedule, Schedule(case.owners)).said
         except reference_text.Refused:
             return
         least = solve(world.ground.problem)
@@ -209,13 +169,14 @@ class ModelComparison:
                 world.check(least)
         world.check(least)
 
-    def difference(self, case):
-        """The orders on which the model is wrong and what it says, or None."""
+    def difference(self, seed):
+        """The order by which the model is wrong and what it says, or None."""
+        case = Case(seed, self.folder.name, self.args.most)
         for order, name in ((ProgramOrder, "program"), (functools.partial(RandomOrder, random.Random(7)), "random")):
             try:
                 self.run(case, order, name)
             except Wrong as wrong:
-                return [name], {"model": (b"", 1, str(wrong).encode())}
+                return Difference(name, {"model": (b"", 1, str(wrong).encode())}, case.write(self.path))
         return None
 
 
@@ -238,65 +199,25 @@ def check_held(world, i):
 
 def check_worked():
     """Raises where the model answers worked schedules otherwise than they are by hand."""
-    for table in worked_replays.TABLES:
-        world = Asked(worked_replays.CIRCLE, None, 2).world()
-        for number, ((word, owners), answer, balance) in enumerate(worked_replays.rows(table), 1):
-            told = world.step(word, *owners)
-            if (told, world.balance) != (answer, balance):
-                raise Wrong(f"event {number} of a worked schedule: {told}, balance {world.balance}")
-
-
-COMPARISON = None
-
-
-def begin(args):
-    global COMPARISON
-    COMPARISON = (Comparison if args.nllc else ModelComparison)(args)
-
-
-def compare(seed):
-    """None where all answers are the same, else the case, the words and the answers."""
-    case = Case(seed, COMPARISON.folder.name, COMPARISON.args.most)
-    difference = COMPARISON.difference(case)
-    return None if difference is None else (case, *difference)
-
-
-def report(args, number, case, words, found):
-    """Saves the text, the cut file and the schedule, and prints what was answered."""
-    os.makedirs(args.save, exist_ok=True)
-    path = os.path.join(args.save, f"replay-{args.seed}-{number}")
-    for suffix, said in ((".text", case.text), (".cut", case.cut), (".schedule", case.schedule)):
-        if said is not None:
-            with open(path + suffix, "wb") as file:
-                file.write(said)
-    print(f"differ on {' '.join(words)}, {case.owners} owners, {path}.text")
-    for who, (out, status, err) in found.items():
-        print(f"  {who}: status {status}, out {out[-400:]!r}, err {err[:300]!r}", flush=True)
+    for case in cases("replays"):
+        world = Asked(text_of("replays", "each_other.facts"), None, 2).world()
+        for line in case.text.decode().splitlines():
+            event, answer, balance = line.split(", ")
+            word, *owners = event.split()
+            told = world.step(word.encode(), *map(int, owners))
+            if (told, world.balance) != (answer.strip(), int(balance)):
+                raise Wrong(f"{line}, in the worked schedule {case.name}: {told}, balance {world.balance}")
 
 
 def main():
-    parser = argparse.ArgumentParser(description=__doc__.split("\n", maxsplit=1)[0])
-    parser.add_argument("--nllc", help="the program to compare")
+    parser = options(__doc__, 5_000)
     parser.add_argument("--model", action="store_true", help="compares the model with itself")
-    parser.add_argument("--count", type=int, default=5_000)
-    parser.add_argument("--seed", type=int, default=1)
-    parser.add_argument("--most", type=int, default=64, help="the most owners, for a slow program")
-    parser.add_argument("--seconds", type=float, default=20.0, help="time limit of a run")
-    parser.add_argument("--processes", type=int, default=2)
-    parser.add_argument("--save", default=os.path.join(tempfile.gettempdir(), "nllc-differences"))
     args = parser.parse_args()
     if bool(args.nllc) == args.model:
         parser.error("either --nllc PATH or --model")
     check_worked()
-    differ = 0
-    with multiprocessing.Pool(args.processes, begin, (args,)) as pool:
-        seeds = [f"replay {args.seed} {number}" for number in range(args.count)]
-        for number, difference in enumerate(pool.imap(compare, seeds, chunksize=8)):
-            if difference is not None:
-                differ += 1
-                report(args, number, *difference)
-    print(f"{args.count} compared, {differ} differ")
-    return 1 if differ else 0
+    seeds = (f"replay {args.seed} {number}" for number in range(args.count))
+    return compare_all(Models if args.model else Replays, args, seeds, lambda number: f"replay-{args.seed}-{number}")
 
 
 if __name__ == "__main__":

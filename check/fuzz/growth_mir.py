@@ -1,6 +1,6 @@
 """Makes one MIR text of given dimensions, so that each can be grown alone or beside another."""
 
-from limits_mir import text_of
+from text_tables import filled
 
 # Each dimension, and its size where it isn't grown.
 DIMENSIONS = {
@@ -23,68 +23,40 @@ DIMENSIONS = {
     "drops": 1,           # drops of a variable
 }
 
-
-def struct_lines(d):
-    """The structs: the first has references in its fields, each other one the struct before it."""
-    names = [b"'p%d" % k for k in range(d["parameters"])]
-    listed = b", ".join([name + b" +" for name in names])
-    own = b"<" + b", ".join(names) + b">"
-    wide = b"(" + b", ".join(b"&%s int" % names[k % len(names)] for k in range(d["references"] + 1)) + b")"
-    fields = b", ".join([wide] * d["fields"])
-    yield b"struct S0<" + listed + b"> drop (" + fields + b")"
-    for k in range(1, d["structs"]):
-        yield b"struct S%d<%s> (%s)" % (k, listed, b", ".join([b"S%d%s" % (k - 1, own)] * d["fields"]))
+# The texts of a form, as tables write them; `-NAME` is one less than the size of that name, and `+NAME` is one more.
+PARAMETERS = b"{%(-parameters)d k*'p$k +, }'p%(-parameters)d +"
+OWN = b"<{%(-parameters)d k*'p$k, }'p%(-parameters)d>"
+WIDE = b"({%(references)d k*&'p$[k %% %(parameters)d] int, }&'p%(rest)d int)"
+STRUCTS = (b"struct S0<" + PARAMETERS + b"> drop ({%(-fields)d*" + WIDE + b", }" + WIDE + b")\n"
+           b"{%(-structs)d k*struct S$[k + 1]<" + PARAMETERS + b"> ({%(-fields)d*S$k" + OWN + b", }S$k" + OWN + b")\n}")
+PLACE = b"_$[1 + NUMBER %% %(variables)d]{%(steps)d*.$[NUMBER %% %(fields)d]}"
+STATEMENTS = (b"{%(copies)d k*" + PLACE.replace(b"NUMBER", b"k") + b" = copy "
+              + PLACE.replace(b"NUMBER", b"(k + 1 + k // %(variables)d)") + b"\n}"
+              b"{%(borrows)d k*_%(+variables)d = &'r$[k %% %(regions)d] _0\n}{%(nops)d*nop\n}"
+              b"{%(runs)d*_%(+variables)d = &'r0 _0\nnop\nread _%(+variables)d\n}")
+BOUND = b"'r$[k %% %(regions)d]: 'u$[k %% %(universals)d]"
+TARGETS = b"{%(targets)d k* bb$[1 + k %% %(-blocks)d]}"
 
 
 def variable_lines(d):
-    """An `int`, variables of the last struct, and one reference to the field of one that is borrowed."""
-    yield b"let _0: int"
+    """Variables of the last struct, whose regions are those of the body in turn."""
     for v in range(d["variables"]):
         taken = b", ".join(b"'r%d" % ((v + k) % d["regions"]) for k in range(d["parameters"]))
-        yield b"let _%d: S%d<%s>" % (1 + v, d["structs"] - 1, taken)
-    yield b"let _%d: &'r0 int" % (1 + d["variables"])
-
-
-def place(d, number):
-    """A place of a variable, as deep as is asked for and the structs allow."""
-    steps = [b".%d" % (number % d["fields"])] * min(d["depth"], d["structs"])
-    return b"_%d" % (1 + number % d["variables"]) + b"".join(steps)
-
-
-def statements(d):
-    for k in range(d["copies"]):
-        yield place(d, k) + b" = copy " + place(d, k + 1 + k // d["variables"])
-    last = b"_%d" % (1 + d["variables"])
-    for k in range(d["borrows"]):
-        yield last + b" = &'r%d _0" % (k % d["regions"])
-    yield from [b"nop"] * d["nops"]
-    for k in range(d["runs"]):
-        yield from (last + b" = &'r0 _0", b"nop", b"read " + last)
-
-
-def body(d):
-    """The blocks: the statements, then calls, switches and drops, each at the end of a block."""
-    blocks = [list(statements(d))]
-    operands = b", ".join(b"copy _%d: int" % 0 for _ in range(d["arguments"]))
-    bounds = b", ".join(b"'r%d: 'u%d" % (k % d["regions"], k % d["universals"]) for k in range(d["bounds"]))
-    count = 3 + d["switches"] + d["drops"]
-    blocks[0].append(b"_0 = call f(%s): int where %s -> bb1" % (operands, bounds))
-    targets = b" ".join(b"bb%d" % (1 + k % (count - 1)) for k in range(d["targets"]))
-    blocks += [[b"switch copy _0 " + targets] for _ in range(d["switches"])]
-    for k in range(d["drops"]):
-        blocks.append([b"drop _%d -> bb%d" % (1 + k % d["variables"], len(blocks) + 1)])
-    blocks += [[b"nop", b"goto bb%d" % (count - 1)], [b"return"]]
-    for number, lines in enumerate(blocks):
-        yield b"block bb%d" % number
-        yield from lines
+        yield b"let _%d: S%d<%s>\n" % (1 + v, d["structs"] - 1, taken)
 
 
 def grown(**sizes):
     """The text of these dimensions; the others are small."""
     d = {**DIMENSIONS, **sizes}
-    head = [b"universal 'u%d" % k for k in range(d["universals"])]
-    head += [b"outlives 'u%d 'u%d" % (k, k + 1) for k in range(d["universals"] - 1)]
-    head += [b"region 'r%d" % k for k in range(d["regions"])]
-    blocks = list(body(d))
-    count = sum(line.startswith(b"block ") for line in blocks)
-    return text_of(*head, *struct_lines(d), *variable_lines(d), b"blocks %d" % count, *blocks, b"end")
+    d.update(steps=min(d["depth"], d["structs"]), blocks=3 + d["switches"] + d["drops"],
+             rest=d["references"] % d["parameters"])
+    form = (b"nll-mir 1\n{%(universals)d k*universal 'u$k\n}{%(-universals)d k*outlives 'u$k 'u$[k + 1]\n}"
+            b"{%(regions)d k*region 'r$k\n}" + STRUCTS + b"let _0: int\n" + b"".join(variable_lines(d)) +
+            b"let _%(+variables)d: &'r0 int\nblocks %(blocks)d\nblock bb0\n" + STATEMENTS +
+            b"_0 = call f({%(-arguments)d*copy _0: int, }copy _0: int): int where {%(bounds)d k*, " + BOUND + b"} -> bb1\n"
+            b"{%(switches)d n*block bb$[n + 1]\nswitch copy _0" + TARGETS + b"\n}"
+            b"{%(drops)d k*block bb$[%(+switches)d + k]\ndrop _$[1 + k %% %(variables)d] -> bb$[%(+switches)d + 1 + k]\n}"
+            b"block bb%(+ends)d\nnop\ngoto bb%(-blocks)d\nblock bb%(-blocks)d\nreturn\nend\n")
+    d["ends"] = d["blocks"] - 3
+    known = {sign + name: size + more for name, size in d.items() for sign, more in (("", 0), ("-", -1), ("+", 1))}
+    return filled(form % {name.encode(): size for name, size in known.items()}).replace(b"where , ", b"where ", 1)

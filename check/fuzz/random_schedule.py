@@ -4,26 +4,10 @@
 owners grow in the order of the program, but for events that are strewn in.
 """
 
-import pathlib
-import sys
+from reference_schedule import FORMS
+from reference_world import FRESH, NOTHING
 
-import generate
-
-sys.path.append(str(pathlib.Path(__file__).resolve().parents[1] / "reference"))
-
-from reference_schedule import FORMS  # noqa: E402 (it is in check/reference/)
-from reference_world import FRESH, NOTHING  # noqa: E402
-
-# Lines of a schedule that are wrong, or seem so.
-LINES = [b"load 64", b"load 65535", b"load 65536", b"load 999999999", b"load 1000000000", b"load 4294967296",
-         b"load 00", b"load -1", b"load +0", b"load", b"load 0 0", b"take 0", b"take 0 1 0", b"push 0 64", b"push 0",
-         b"owe", b"owe 0 1", b"clear 0 0", b"leave", b"leave 0 1", b"stop 0", b"Load 0", b"load0", b"load 0,", b"end",
-         b"load 0 # one", b"'load 0", b"load '0", b"# \xff", b"\xff", b"\xc3\xa9", b"load\xc2\xa00", b"load 0\x0b",
-         b"load 0\x00", b"# load 99", b"", b" \t\r", b" #", b"\tload\t0\r", b"load  0 ", b" take 0 0", b"push 0 0"]
-
-HEADERS = [b"nll-schedule 2", b"nll-schedule", b"nll-schedule 1 1", b"nll-cut 1", b"nll-schedule 01",
-           b" nll-schedule  1\r", b"\tnll-schedule\t1", b"nll-schedule1", b"NLL-SCHEDULE 1", b"# nll-schedule 1", b"",
-           b"nll-schedule 1\x00", b"nll-schedule 1 \xff", b"\xef\xbb\xbfnll-schedule 1"]
+from random_cut import add_remarks, hostile
 
 
 # Events
@@ -123,32 +107,13 @@ def lines_of(events):
     return [b"nll-schedule 1"] + [b" ".join([word] + [b"%d" % owner for owner in owners]) for word, owners in events]
 
 
-def hostile(rng, lines):
-    """The bytes of a schedule of these lines in which something may be wrong; None for no file."""
-    kind = rng.choice(["header", "line", "line", "bytes", "bytes", "none", "end"])
-    if kind == "none":
-        return None
-    if kind == "header":
-        lines[0] = rng.choice(HEADERS)
-    elif kind == "line":
-        for _ in range(rng.choice([1, 1, 2, 3])):
-            at = rng.randrange(1, len(lines) + 1)
-            lines[at:at + rng.randrange(2)] = [rng.choice(LINES)]
-    text = b"\n".join(lines) + rng.choice([b"\n", b"\n", b"", b"\n\n", b"\nend\n" if kind == "end" else b"\n"])
-    if kind == "bytes":
-        for _ in range(rng.choice([1, 2])):
-            text = rng.choice([generate.change_bytes, generate.change_token])(rng, text)
-    return text
-
-
 def schedule(rng, world, most):
     """A schedule's bytes, None for no file. `world` is None where there is none, since something else is refused."""
     events = [any_event(rng, 4) for _ in range(rng.randrange(9))] if world is None else events_of(rng, world, most)
     lines = lines_of(events)
     if rng.random() < 0.2:
-        return hostile(rng, lines)
-    for _ in range(rng.choice([0, 0, 1, 3])):
-        lines.insert(rng.randrange(1, len(lines) + 1), rng.choice([b"", b"# an event", b"\t\r", b" #1"]))
+        return hostile(rng, lines, "schedule", ["header", "line", "line", "bytes", "bytes", "none", "end"])
+    add_remarks(rng, lines, rng.choice([0, 0, 1, 3]), b"# an event")
     if rng.random() < 0.2:
         lines[1:] = [line.replace(b" ", rng.choice([b"  ", b"\t", b" \t "])) for line in lines[1:]]
     return b"\n".join(lines) + rng.choice([b"\n", b"\n", b""])

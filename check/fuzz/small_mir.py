@@ -1,14 +1,11 @@
 """Makes small MIR texts, of both versions: random bodies, and texts with small changes."""
 
-import pathlib
 import re
-import sys
 
-import generate
+import reference_types as types
 
-sys.path.append(str(pathlib.Path(__file__).resolve().parents[1] / "reference"))
-
-import reference_types as types  # noqa: E402 (it is in check/reference/)
+from text_changes import byte_changes, change_bytes, change_lines, changed, line_changes, replaced, spans
+from text_tables import lines_of
 
 NAMES = [b"a", b"b", b"c", b"1", b"01", b"2", b"end", b"Static", b"_", b"a1", b"mut", b"x_9"]
 STRUCTS = [b"W", b"V", b"P", b"T1", b"Mut"]
@@ -315,38 +312,7 @@ def small(rng, version=None):
 
 # Changed texts
 
-PIECES = [b"const", b"copy", b"move", b"mut", b"make", b"call", b"where", b"unwind", b"drop",
-          b"end", b"block", b"blocks", b"goto", b"switch", b"return", b"stop", b"nop", b"read",
-          b"live", b"dead", b"let", b"struct", b"region", b"universal", b"outlives", b"assert", b"int",
-          b"_0", b"_1", b"_9", b"_01", b"_", b"bb0", b"bb1", b"bb9", b"bb", b"bb00", b"0", b"1",
-          b"9", b"01", b"1_0", b"999999999", b"1000000000", b"W", b"T", b"Z", b"w", b"'static",
-          b"'z", b"->", b"()", b"(int)", b"<", b">", b"= ?", b"fn", b"fn() -> int", b"fn(int) ->",
-          b"- ?", b""]
-PIECES += [bytes([sign]) for sign in b"=&()<>,:.*+?-"]
-
-WRONG = [b"_9 = copy _8.*", b"read _0.7", b"drop _9 -> bb99", b"goto bb999999999", b"end",
-         b"end end", b"universal 'static", b"region 'static", b"outlives 'z 'static", b"blocks 0",
-         b"assert 'static : 'static", b"assert 'z : 'static", b"assert 'static 'static", b"assert 'static :",
-         b"blocks 1", b"block bb0", b"block bb9", b"let _0: int", b"let _9: Z<'z>", b"struct W ()",
-         b"struct Z<'static +, T +, T => (T<int>, Z, 'z)", b"struct Z<T +> (T, &'static int)",
-         b"# \xff",
-         b"live _9", b"dead _0", b"nop", b"stop", b"return", b"switch copy _0 bb0 bb9", b"read",
-         b"_0 = make () ()", b"_0 = make int ()", b"_0 = & 'static _0", b"= & ( ) < > , : . * + ?",
-         b"_0 = call f(const: int): int -> bb0 unwind bb0", b"- >", b"''", b"'", b"return \xff",
-         b"_0 = call f(): int where 'z: 'static -> bb9", b"next 0 1", b"points 1", b"(((((",
-         b"let _1: (", b"let _1: fn(", b"let _1: fn() ->", b"let _0: fn('z) -> int", b"let _0: fn(int)",
-         b"let _9: fn(Z<'z>) -> &'z int", b"_0 = make fn(int) -> int (const)", b"read _0.0",
-         b"struct Z<T -, 'x -?> (fn(T) -> fn(&'x int) -> T)", b"struct Z<T -> (fn(T) -> T)"]
-
-
-# Struct lines with a fault, or beside one.
-WRONG_STRUCTS = [b"struct Q<W +> (W)", b"struct Q<Q => (Q)", b"struct Q<'static +> (&'static int)",
-                 b"struct Q<'b +, 'b =?> (&'b int)", b"struct Q<T +, T +> (T)", b"struct W ()",
-                 b"struct Q<T +, W +> drop (T)", b"struct Q<'T =, T =?> (&'T T)", b"struct Q (Q)",
-                 b"struct Q<T +> (T<>)", b"struct Q<T +> (T<int>)", b"struct Q (&'static W<int>)",
-                 b"struct Q (W)", b"struct Q ((), &'b int)", b"struct Q<T +> (W<T>, W<'static>)",
-                 b"struct Q<T - > (fn(T) -> int)", b"struct Q<T -> (fn(T) -> int)", b"struct Q<'b -?> ()",
-                 b"struct Q (fn(W) -> T)", b"struct Q (fn() -> ())"]
+PIECES, WRONG, WRONG_STRUCTS = (lines_of("wrong", name) for name in ("pieces", "mir", "structs"))
 
 
 def change_struct(rng, text):
@@ -358,13 +324,13 @@ def change_struct(rng, text):
 
 def mutations(text):
     """Every text that one small change makes of a text."""
-    yield from generate.byte_changes(text)
-    yield from generate.line_changes(text)
-    spans = generate.spans(TOKEN, text)
-    tokens = sorted({text[start:end] for start, end in spans})
-    for start, end in spans:
-        yield from (generate.replaced(text, start, end, piece) for piece in tokens + PIECES)
-        yield generate.replaced(text, end, end, b" " + text[start:end])
+    yield from byte_changes(text)
+    yield from line_changes(text)
+    places = spans(TOKEN, text)
+    tokens = sorted({text[start:end] for start, end in places})
+    for start, end in places:
+        yield from (replaced(text, start, end, piece) for piece in tokens + PIECES)
+        yield replaced(text, end, end, b" " + text[start:end])
 
 
 # Tokens that may stand for one another: what they look like, and some more of them.
@@ -384,34 +350,28 @@ ALIKE = [(rb"\Anll-mir \w", [b"nll-mir 1", b"nll-mir 2", b"nll-mir 2", b"nll-mir
 def change_alike(rng, text):
     """Puts a token in the place of one that is like it."""
     pattern, more = rng.choice(ALIKE)
-    spans = generate.spans(pattern, text)
-    if not spans:
+    places = spans(pattern, text)
+    if not places:
         return text
-    pieces = [text[start:end] for start, end in rng.choices(spans, k=4)] + more
-    return generate.replaced(text, *rng.choice(spans), rng.choice(pieces))
+    pieces = [text[start:end] for start, end in rng.choices(places, k=4)] + more
+    return replaced(text, *rng.choice(places), rng.choice(pieces))
 
 
 def change_token(rng, text):
     """Puts another token in the place of one, or beside it."""
-    spans = generate.spans(TOKEN, text)
-    if not spans:
+    places = spans(TOKEN, text)
+    if not places:
         return text
-    start, end = rng.choice(spans)
-    other = rng.choice(spans)
+    start, end = rng.choice(places)
+    other = rng.choice(places)
     piece = rng.choice([rng.choice(PIECES), text[slice(*other)]])
-    return generate.replaced(text, start if rng.random() < 0.8 else end, end, piece)
+    return replaced(text, start if rng.random() < 0.8 else end, end, piece)
+
+
+def change_some_lines(rng, text):
+    return change_lines(rng, text, WRONG)
 
 
 def mutant(rng, text):
     """A text with one to three changes."""
-    for _ in range(rng.choice([1, 1, 1, 2, 3])):
-        if rng.random() < 0.05:
-            text = text[:rng.randrange(len(text) + 1)]
-        kind = rng.choice(["bytes", "token", "alike", "alike", "alike", "alike", "lines", "struct"])
-        if kind == "lines":
-            text = generate.change_lines(rng, text, WRONG)
-        else:
-            changes = {"bytes": generate.change_bytes, "token": change_token,
-                       "alike": change_alike, "struct": change_struct}
-            text = changes[kind](rng, text)
-    return text
+    return changed(rng, text, 0.05, [change_bytes, change_token, *[change_alike] * 4, change_some_lines, change_struct])

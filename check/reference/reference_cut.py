@@ -6,14 +6,10 @@ from reference_text import number_of, tokens_of
 MOST_OWNER = 65_535
 
 
-class Cut:
+class Cut(text.Listing):
     """The numbers of the lines so far."""
 
     HEADER = b"nll-cut"
-    version = b"1"
-
-    def __init__(self):
-        self.owners = []
 
     def form_of(self, line):
         """The number that a line is, or None where it isn't one."""
@@ -22,15 +18,8 @@ class Cut:
             return None
         return number_of(tokens[0][1])
 
-    def ends(self, _form):
-        """A text may stop behind any line."""
-        return True
-
     def faults(self, form):
         return {"range"} if form > MOST_OWNER else set()
-
-    def add(self, form):
-        self.owners.append(form)
 
 
 def refusal(path, said, regions, owners):
@@ -39,7 +28,7 @@ def refusal(path, said, regions, owners):
     if said is None:
         return f"nllc: cannot read {path}"
     try:
-        dealt = text.read(said, Cut()).owners
+        dealt = text.read(said, Cut()).said
     except text.Refused as refused:
         return str(refused).replace("nllc: line", "nllc: cut line", 1)
     if len(dealt) != regions:

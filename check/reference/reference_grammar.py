@@ -12,32 +12,30 @@ from reference_text import number_of
 # The lines, by what stands in them. A place is its variable and its projections, each `*` or a
 # number; an operand is a place, or None for `const`. A written type is a list of its nodes, in
 # which parts stand before what they are parts of.
-Universal = namedtuple("Universal", "name")
-Outlives = namedtuple("Outlives", "sup sub")
-Region = namedtuple("Region", "name")
-Assert = namedtuple("Assert", "sup sub")
-Struct = namedtuple("Struct", "name parameters drop fields")
-Let = namedtuple("Let", "variable type")
-Blocks = namedtuple("Blocks", "count")
-Block = namedtuple("Block", "number")
-Assign = namedtuple("Assign", "place operand")
-Borrow = namedtuple("Borrow", "place region mutable borrowed")
-Make = namedtuple("Make", "place type operands")
-Read = namedtuple("Read", "place")
-Live = namedtuple("Live", "variable")
-Dead = namedtuple("Dead", "variable")
-Nop = namedtuple("Nop", "")
-Goto = namedtuple("Goto", "target")
-Switch = namedtuple("Switch", "operand targets")
-Drop = namedtuple("Drop", "variable target unwind")
-Call = namedtuple("Call", "place operands types result where target unwind")
-Return = namedtuple("Return", "")
-Stop = namedtuple("Stop", "")
-End = namedtuple("End", "")
+FORMS = {
+    "Universal": "name", "Outlives": "sup sub", "Region": "name", "Assert": "sup sub",
+    "Struct": "name parameters drop fields", "Let": "variable type", "Blocks": "count", "Block": "number",
+    "Assign": "place operand", "Borrow": "place region mutable borrowed", "Make": "place type operands",
+    "Read": "place", "Live": "variable", "Dead": "variable", "Nop": "",
+    "Goto": "target", "Switch": "operand targets", "Drop": "variable target unwind",
+    "Call": "place operands types result where target unwind", "Return": "", "Stop": "", "End": "",
+}
+(Universal, Outlives, Region, Assert, Struct, Let, Blocks, Block, Assign, Borrow, Make, Read, Live, Dead, Nop, Goto,
+ Switch, Drop, Call, Return, Stop, End) = (namedtuple(name, parts) for name, parts in FORMS.items())
 Place = namedtuple("Place", "variable projections")
 
 STATEMENTS = (Assign, Borrow, Make, Read, Live, Dead, Nop)
 TERMINATORS = (Goto, Switch, Drop, Call, Return, Stop)
+
+# What stands behind the keyword of a line: rules, of which some give several parts; nothing, or each as it comes.
+LINES = {
+    "universal": (Universal, "region"), "outlives": (Outlives, "region region"), "region": (Region, "region"),
+    "assert": (Assert, "clause"), "struct": (Struct, "head fields"), "let": (Let, "declared"), "blocks": (Blocks, "number"),
+    "block": (Block, "block"), "read": (Read, "place"), "live": (Live, "variable"), "dead": (Dead, "variable"),
+    "nop": (Nop, ""), "goto": (Goto, "block"), "switch": (Switch, "operand blocks"), "drop": (Drop, "variable targets"),
+    "return": (Return, ""), "stop": (Stop, ""), "end": (End, ""),
+}
+SEVERAL = {"clause", "head", "declared", "targets"}
 
 
 class NoForm(Exception):
@@ -98,6 +96,9 @@ class Grammar:
     def block(self):
         return self.numbered(b"bb")
 
+    def number(self):
+        return self.numbered(b"")
+
     def name(self):
         word = self.want("word")
         if word[0] not in text.CAPITALS:
@@ -134,35 +135,33 @@ class Grammar:
             part = yield self.type_into(nodes)
             nodes.append(("reference", region, mutable, part))
         elif self.sign(b"("):
-            parts = yield self.types_into(nodes)
+            parts = yield self.listed_into(nodes, self.type_into, b")")
             nodes.append(("tuple", parts))
         elif self.has("word", b"int"):
             nodes.append(("int",))
         elif self.has_functions and self.has("word", b"fn"):
             self.want("sign", b"(")
-            parts = yield self.types_into(nodes)
+            parts = yield self.listed_into(nodes, self.type_into, b")")
             self.want("arrow")
             parts.append((yield self.type_into(nodes)))
             nodes.append(("function", parts))
         else:
             name, arguments = self.name(), []
             if self.sign(b"<"):
-                arguments.append((yield self.argument_into(nodes)))
-                while self.sign(b","):
-                    arguments.append((yield self.argument_into(nodes)))
-                self.want("sign", b">")
+                arguments = yield self.listed_into(nodes, self.argument_into, b">")
             nodes.append(("named", name, arguments))
         return len(nodes) - 1
 
-    def types_into(self, nodes):
-        """The indices of types behind a round bracket, up to the one that closes it."""
-        parts = []
-        if not self.sign(b")"):
-            parts.append((yield self.type_into(nodes)))
-            while self.sign(b","):
-                parts.append((yield self.type_into(nodes)))
-            self.want("sign", b")")
-        return parts
+    def listed_into(self, nodes, rule, end):
+        """What a rule finds, up to the bracket that closes it; only round ones may hold nothing."""
+        found = []
+        if end == b")" and self.sign(end):
+            return found
+        found.append((yield rule(nodes)))
+        while self.sign(b","):
+            found.append((yield rule(nodes)))
+        self.want("sign", end)
+        return found
 
     def argument_into(self, nodes):
         """An argument: whether it is a region, and the region or the index of the type."""
@@ -179,7 +178,7 @@ class Grammar:
             if self.sign(b"*"):
                 projections.append("*")
             else:
-                projections.append(self.numbered(b""))
+                projections.append(self.number())
         return Place(variable, tuple(projections))
 
     def operand(self):
@@ -206,33 +205,25 @@ class Grammar:
         if self.tokens[0][1].startswith(b"_"):
             return self.assignment()
         keyword = self.want("word").decode()
-        if keyword in ("nop", "return", "stop", "end"):
-            return {"nop": Nop, "return": Return, "stop": Stop, "end": End}[keyword]()
-        rules = ("universal", "outlives", "region", "struct", "let", "blocks", "block", "read",
-                 "live", "dead", "goto", "switch", "drop")
-        if keyword not in rules + ("assert",) * self.has_asserts:
+        if keyword not in LINES or (keyword == "assert" and not self.has_asserts):
             raise NoForm
-        return getattr(self, keyword + "_line")()
+        form, rules = LINES[keyword]
+        parts = []
+        for rule in rules.split():
+            found = getattr(self, rule)()
+            parts += found if rule in SEVERAL else [found]
+        return form(*parts)
 
-    def universal_line(self):
-        return Universal(self.region())
-
-    def outlives_line(self):
-        return Outlives(self.region(), self.region())
-
-    def region_line(self):
-        return Region(self.region())
-
-    def assert_line(self):
-        return Assert(*self.clause())
-
-    def struct_line(self):
+    def head(self):
+        """The name of a struct, its parameters, and whether it has a drop of its own."""
         name, parameters = self.name(), []
         if self.sign(b"<"):
             parameters = self.listed(self.parameter)
             self.want("sign", b">")
-        drop = self.has("word", b"drop")
-        return Struct(name, parameters, drop, self.closed(self.type))
+        return name, parameters, self.has("word", b"drop")
+
+    def fields(self):
+        return self.closed(self.type)
 
     def parameter(self):
         is_region = self.has("region")
@@ -242,37 +233,18 @@ class Grammar:
             raise NoForm
         return types.Parameter(is_region, name, sign.decode(), self.sign(b"?"))
 
-    def let_line(self):
+    def declared(self):
+        """A variable and its type."""
         variable = self.variable()
         self.want("sign", b":")
-        return Let(variable, self.type())
+        return variable, self.type()
 
-    def blocks_line(self):
-        return Blocks(self.numbered(b""))
-
-    def block_line(self):
-        return Block(self.block())
-
-    def read_line(self):
-        return Read(self.place())
-
-    def live_line(self):
-        return Live(self.variable())
-
-    def dead_line(self):
-        return Dead(self.variable())
-
-    def goto_line(self):
-        return Goto(self.block())
-
-    def switch_line(self):
-        operand, targets = self.operand(), [self.block()]
+    def blocks(self):
+        """Blocks up to the end of the line, one at least."""
+        found = [self.block()]
         while self.at < len(self.tokens):
-            targets.append(self.block())
-        return Switch(operand, targets)
-
-    def drop_line(self):
-        return Drop(self.variable(), *self.targets())
+            found.append(self.block())
+        return found
 
     def targets(self):
         """Where a drop or call goes on, and where it unwinds to or None."""

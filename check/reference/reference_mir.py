@@ -99,12 +99,10 @@ class Mir:
             kinds.add("limit universals")
 
     def faults_outlives(self, kinds, form):
-        if form.sup not in self.universals or form.sub not in self.universals:
+        if not set(form) <= (set(self.universals) if isinstance(form, Outlives) else self.regions):
             kinds.add("unknown")
 
-    def faults_assert(self, kinds, form):
-        if form.sup not in self.regions or form.sub not in self.regions:
-            kinds.add("unknown")
+    faults_assert = faults_outlives
 
     def faults_region(self, kinds, form):
         if form.name in self.regions:
@@ -113,16 +111,12 @@ class Mir:
             kinds.add("limit regions")
 
     def faults_struct(self, kinds, form):
-        regions = [p.name for p in form.parameters if p.is_region]
-        names = [p.name for p in form.parameters if not p.is_region]
-        declared = [b"static"] + regions
-        if len(set(declared)) < len(declared):
-            kinds.add("duplicate")
-        declared = list(self.structs) + [form.name] + names
-        if len(set(declared)) < len(declared):
-            kinds.add("duplicate")
+        regions, names = parameters_of(form)
+        for declared in (regions, [*self.structs, form.name, *names]):
+            if len(set(declared)) < len(declared):
+                kinds.add("duplicate")
         for field in form.fields:
-            self.judged(kinds, field, set(regions) | {b"static"}, set(names))
+            self.judged(kinds, field, regions, names)
         if len(self.structs) + 1 > text.LIMIT_STRUCTS:
             kinds.add("limit structs")
 
@@ -300,9 +294,7 @@ class Mir:
             self.add_point(form)
 
     def add_struct(self, form):
-        regions = {p.name for p in form.parameters if p.is_region} | {b"static"}
-        names = {p.name for p in form.parameters if not p.is_region}
-        fields = [self.judged(set(), field, regions, names) for field in form.fields]
+        fields = [self.judged(set(), field, *parameters_of(form)) for field in form.fields]
         self.structs[form.name] = types.Struct(form.parameters, form.drop, fields)
 
     def add_point(self, form):
@@ -310,6 +302,12 @@ class Mir:
         self.points.append((block, len(self.points) - self.firsts[block], form))
         self.edges += 1 if isinstance(form, STATEMENTS) else len(targets_of(form))
         self.is_open = isinstance(form, STATEMENTS)
+
+
+def parameters_of(struct):
+    """The regions that a struct's fields may name, and its type parameters."""
+    return ([b"static"] + [p.name for p in struct.parameters if p.is_region],
+            [p.name for p in struct.parameters if not p.is_region])
 
 
 def reference_to(form, borrowed):

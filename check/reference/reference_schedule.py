@@ -1,19 +1,18 @@
 """A slow reader of schedules (version 1), straight from the definitions."""
 
-from reference_text import number_of, tokens_of
+from reference_text import Listing, number_of, tokens_of
 
 FORMS = {b"load": 1, b"take": 2, b"owe": 1, b"clear": 1, b"push": 2, b"leave": 1}
 
 
-class Schedule:
+class Schedule(Listing):
     """The events of the lines so far, each its word and its owners, of so many owners."""
 
     HEADER = b"nll-schedule"
-    version = b"1"
 
     def __init__(self, owners):
+        super().__init__()
         self.owners = owners
-        self.events = []
 
     def form_of(self, line):
         """The event that a line is, or None where it is none."""
@@ -26,12 +25,5 @@ class Schedule:
             return None
         return (word, numbers)
 
-    def ends(self, _form):
-        """A text may stop behind any line."""
-        return True
-
     def faults(self, form):
         return {"range"} if any(number >= self.owners for number in form[1]) else set()
-
-    def add(self, form):
-        self.events.append(form)

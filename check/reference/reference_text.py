@@ -115,3 +115,18 @@ def read(text, said):
         if form is not None:
             said.add(form)
     return said
+
+
+class Listing:
+    """A text of version 1 that may stop behind any line; what the lines so far said, one after the other."""
+
+    version = b"1"
+
+    def __init__(self):
+        self.said = []
+
+    def ends(self, _form):
+        return True
+
+    def add(self, form):
+        self.said.append(form)

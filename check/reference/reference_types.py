@@ -100,35 +100,29 @@ def arguments(structs, t):
     return [(p, next(regions) if p.is_region else next(types)) for p in structs[t.name].parameters]
 
 
+def all_in(t, parts):
+    """A type and all that its parts lead to, each once; `parts` gives those of a type."""
+    seen, left = {t}, [t]
+    while left:
+        yield (t := left.pop())
+        more = set(parts(t)) - seen
+        seen |= more
+        left += more
+
+
 def regions_in(t):
     """The regions that are written in a type."""
-    found = set()
-    seen = set()
-    left = [t]
-    while left:
-        t = left.pop()
-        if t not in seen:
-            seen.add(t)
-            found |= set(t.regions)
-            left += t.parts
-    return found
+    return {region for one in all_in(t, lambda one: one.parts) for region in one.regions}
 
 
 def drop_regions(structs, t):
     """The regions that a drop of a value of this type may look at."""
     found = set()
-    seen = set()
-    left = [t]
-    while left:
-        t = left.pop()
-        if t in seen:
-            continue
-        seen.add(t)
-        if t.form == "struct" and structs[t.name].drop:
-            for parameter, argument in arguments(structs, t):
+    for one in all_in(t, lambda one: parts_of(structs, one) or []):
+        if one.form == "struct" and structs[one.name].drop:
+            for parameter, argument in arguments(structs, one):
                 if not parameter.marked:
                     found |= {argument} if parameter.is_region else regions_in(argument)
-        left += parts_of(structs, t) or []
     return found
 
 
@@ -143,20 +137,13 @@ def positions(structs, t, outer="+"):
     if t.form == "reference":
         behind_it = TIMES[outer, "=" if t.mutable else "+"]
         return [(outer, t.regions[0])] + positions(structs, t.parts[0], behind_it)
-    found = []
-    if t.form == "tuple":
-        for part in t.parts:
-            found += positions(structs, part, outer)
-    if t.form == "function":
-        for part in t.parts[:-1]:
-            found += positions(structs, part, TIMES[outer, "-"])
-        found += positions(structs, t.parts[-1], outer)
     if t.form == "struct":
-        for parameter, argument in arguments(structs, t):
-            sign = TIMES[outer, parameter.sign]
-            one = [(sign, argument)] if parameter.is_region else positions(structs, argument, sign)
-            found += one
-    return found
+        signed = [(TIMES[outer, p.sign], argument) for p, argument in arguments(structs, t)]
+    else:
+        taken = TIMES[outer, "-"] if t.form == "function" else outer
+        signed = [(taken, part) for part in t.parts[:-1]] + [(outer, part) for part in t.parts[-1:]]
+    return [one for sign, part in signed
+            for one in (positions(structs, part, sign) if isinstance(part, Type) else [(sign, part)])]
 
 
 def wants(structs, t, u):

@@ -14,6 +14,7 @@ import argparse
 import functools
 import random
 import sys
+from dataclasses import dataclass
 
 import reference
 import reference_cut
@@ -24,7 +25,6 @@ from reference_mir import Mir
 from reference_order import ProgramOrder, RandomOrder
 from reference_owner import Ground, Owner, demand
 from reference_schedule import Schedule
-from reference_solve import solve
 
 # What an owner works on.
 NOTHING, FRESH, OWED = "nothing", "fresh", "owed"
@@ -172,7 +172,7 @@ class World:
 def dealt(regions, owners, deal, cut):
     """The owner of each region, by a cut file's bytes where there is one, else in turns or in blocks."""
     if cut is not None:
-        return reference_text.read(cut, Cut()).owners
+        return reference_text.read(cut, Cut()).said
     size = -(-regions // owners)
     return [region % owners if deal == "round" else region // size for region in range(regions)]
 
@@ -188,7 +188,7 @@ def problem_of(text):
 def events_of(said, owners):
     """The events of a schedule's bytes; raises `Refused`."""
     try:
-        return reference_text.read(said, Schedule(owners)).events
+        return reference_text.read(said, Schedule(owners)).said
     except reference_text.Refused as refused:
         raise reference_text.Refused(str(refused).replace("nllc: line", "nllc: schedule line", 1)) from None
 
@@ -201,18 +201,18 @@ def report(world, events):
     return b"".join(lines + reference.value_lines(world.ground.problem, world.values()))
 
 
+@dataclass
 class Asked:
     """What is asked: the bytes of a text, of a schedule and of a cut file, each None where it can't be read, with
     the paths that they have, and how the regions are dealt."""
 
-    def __init__(self, text, schedule, owners=1, deal="round", cut_path=None, cut=None, schedule_path=""):
-        self.text = text
-        self.schedule = schedule
-        self.schedule_path = schedule_path
-        self.owners = owners
-        self.deal = deal
-        self.cut_path = cut_path
-        self.cut = cut
+    text: bytes
+    schedule: bytes
+    owners: int = 1
+    deal: str = "round"
+    cut_path: str = None
+    cut: bytes = None
+    schedule_path: str = ""
 
     def ground(self):
         """The problem and its owners; raises `Refused`."""
@@ -237,10 +237,6 @@ class Asked:
             return report(world, events_of(self.schedule, self.owners)), 0, b""
         except reference_text.Refused as refused:
             return b"", 2, f"{refused}\n".encode()
-
-
-def least_values(world):
-    return solve(world.ground.problem)
 
 
 def bytes_of(path):

@@ -1,15 +1,24 @@
 """Runs of a program with one growth of memory refused, by refuse.c, which is preloaded before it."""
 
-import collections
 import itertools
 import os
 import shutil
 import subprocess
+from typing import NamedTuple
+
+from running import run
 
 HERE = os.path.dirname(os.path.abspath(__file__))
+# The blocks that the C library keeps for the stack of a thread that ended.
+KEPT_BY_THREADS = 2
 
-# Status, standard output and standard error; how many growths were asked for; how many blocks weren't given back.
-Run = collections.namedtuple("Run", "answer growths left")
+
+class Run(NamedTuple):
+    """Status, standard output and standard error; how many growths were asked for; how many blocks weren't given back."""
+
+    answer: tuple
+    growths: int = 0
+    left: int = 0
 
 
 class Allocator:
@@ -22,18 +31,12 @@ class Allocator:
         subprocess.run([compiler, "-O2", "-Wall", "-Werror", "-shared", "-fPIC", "-o", self.library,
                         os.path.join(HERE, "refuse.c")], check=True)
 
-    def run(self, command, at, seconds):
+    def run(self, command, at, seconds, limits=()):
         """A run whose growth of this number is refused, from 1 on; with 0 none is."""
         counts = os.path.join(self.folder, f"count-{next(self.numbers)}")
-        known = {"LD_PRELOAD": self.library, "REFUSE_AT": str(at), "REFUSE_COUNT": counts}
-        try:
-            done = subprocess.run(command, stdin=subprocess.DEVNULL, capture_output=True,
-                                  timeout=seconds, check=False, env={**os.environ, **known})
-        except subprocess.TimeoutExpired:
-            return Run(("no answer in time", b"", b""), 0, 0)
-        answer = done.returncode, done.stdout, done.stderr
+        answer = run(command, seconds, limits, LD_PRELOAD=self.library, REFUSE_AT=str(at), REFUSE_COUNT=counts)
         if not os.path.exists(counts):
-            return Run(answer, 0, 0)
+            return Run(answer)
         with open(counts, encoding="ascii") as file:
             growths, left = map(int, file.read().split())
         os.remove(counts)

@@ -21,17 +21,14 @@ wrong`; status 1 where W isn't 0 or a command has no run that is refused.
 """
 
 import argparse
-import glob
-import os
 import shlex
 import sys
 import tempfile
 
 from allocator import Allocator
+from paths import ROOT
+from running import MEMORY, UNSTARTED
 
-HERE = os.path.dirname(os.path.abspath(__file__))
-REFUSED = (3, b"", b"nllc: memory\n")
-UNSTARTED = (3, b"", b"nllc: thread\n")
 OWNERS = ("--owners", "--cut")
 
 
@@ -45,7 +42,7 @@ def tried(growths, most):
 def refuse_each(allocator, command, seconds, most):
     """How many runs there were, how many were refused, and how many ended wrongly."""
     has_owners = any(word in OWNERS for word in command)
-    refusals = (REFUSED, UNSTARTED) if has_owners else (REFUSED,)
+    refusals = (MEMORY, UNSTARTED) if has_owners else (MEMORY,)
     usual, growths, left = allocator.run(command, 0, seconds)
     refused = wrong = 0
     numbers = tried(growths, most)
@@ -75,9 +72,7 @@ def words():
     args = parser.parse_args()
     if args.count is not None and args.count < 2:
         parser.error("--count is at least 2")
-    examples = [os.path.join(HERE, "..", "..", "examples", name) for name in ("*.facts", "*.mir")]
-    found = [os.path.normpath(path) for pattern in examples for path in glob.glob(pattern)]
-    args.files = args.files or sorted(found)
+    args.files = args.files or sorted(map(str, [*ROOT.glob("examples/*.facts"), *ROOT.glob("examples/*.mir")]))
     return args
 
 

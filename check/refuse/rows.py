@@ -28,43 +28,40 @@ import sys
 import tempfile
 import time
 
-from allocator import Allocator
+sys.path.insert(0, str(pathlib.Path(__file__).resolve().parents[1]))
 
-ROOT = pathlib.Path(__file__).resolve().parents[2]
-MEMORY, THREAD = (3, b"", b"nllc: memory\n"), (3, b"", b"nllc: thread\n")
+from paths import PROGRAM, ROOT  # noqa: E402 (it stands in check/)
+from allocator import KEPT_BY_THREADS, Allocator  # noqa: E402
+from running import MEMORY, UNSTARTED  # noqa: E402
+from text_tables import cases, filled  # noqa: E402
+
 ONE_THREAD, OWNERS = ([],), (["--owners", "2"], ["--owners", "2", "--mail", "ring"])
 # So many runs behind those of the first one's growths, where all were refused, are one too many.
 MOST_MORE = 200
-# The blocks that the C library keeps for the stacks of threads that ended.
-KEPT_BY_THREADS = 2
 SECONDS_EACH = 60.0
 
 # What a run of one command may end as, where no growth or one is refused. A test has no answer, but passes.
 Job = collections.namedtuple("Job", "name command answer refusals")
 Count = collections.namedtuple("Count", "growths tried refused wrong")
 
-CHAIN_3 = "next 0 1\nnext 1 2\nreturn 2\n"
+
+def worked(table, name):
+    """A worked text, and what `values` prints of it."""
+    case = next(one for one in cases(table) if one.name == name)
+    return case.text.decode(), "".join(f"{line}\n" for line in case.lines)
+
+
+MANY = filled(b"nll-facts 1\npoints 300\nregion '1\nregion '2\n{299 p*next $p $[p + 1]\n}return 299\n{300 p*base '1 $p\n}"
+              b"constraint '2 '1 0\nend\n").decode()
 EACH_POINT = " ".join(map(str, range(300)))
 
 # A facts text or a MIR text, and what `values` prints of it.
 PROBLEMS = {
-    "reached": ("nll-facts 1\npoints 3\nregion '1\nregion '2\n" + CHAIN_3 + "base '1 1\nbase '1 2\n"
-                "constraint '2 '1 1\nend\n",
-                "'static: 0 1 2 end('static)\n'1: 1 2\n'2: 1 2\n"),
-    "by turns": ("nll-facts 1\npoints 2\nregion '1\nregion '2\nnext 0 1\nreturn 1\nbase '1 0\nbase '2 1\n"
-                 "constraint '2 '1 0\nconstraint '1 '2 0\nend\n",
-                 "'static: 0 1 end('static)\n'1: 0 1\n'2: 0 1\n"),
-    "filled hole": ("nll-facts 1\npoints 3\nregion '1\nregion '2\nregion '3\n" + CHAIN_3 + "base '1 0\nbase '1 2\n"
-                    "base '3 1\nconstraint '1 '3 1\nconstraint '2 '1 0\nend\n",
-                    "'static: 0 1 2 end('static)\n'1: 0 1 2\n'2: 0 1 2\n'3: 1\n"),
-    "running body": ("nll-mir 1\nregion 'p\nregion 'foo\nregion 'bar\nlet _0: int\nlet _1: int\nlet _2: int\n"
-                     "let _3: &'p int\nblocks 3\nblock bb0\n_3 = &'foo _1\nswitch copy _2 bb1 bb2\nblock bb1\n"
-                     "read _3.*\n_3 = &'bar _2\ngoto bb2\nblock bb2\nread _3.*\nreturn\nend\n",
-                     "'static: bb0/0 bb0/1 bb1/0 bb1/1 bb1/2 bb2/0 bb2/1 end('static)\n"
-                     "'p: bb0/1 bb1/0 bb1/2 bb2/0\n'foo: bb0/1 bb1/0 bb2/0\n'bar: bb1/2 bb2/0\n"),
-    "many": ("nll-facts 1\npoints 300\nregion '1\nregion '2\n" + "".join(f"next {at} {at + 1}\n" for at in range(299))
-             + "return 299\n" + "".join(f"base '1 {at}\n" for at in range(300)) + "constraint '2 '1 0\nend\n",
-             f"'static: {EACH_POINT} end('static)\n'1: {EACH_POINT}\n'2: {EACH_POINT}\n"),
+    "reached": worked("facts_worked", "region_takes_path"),
+    "by turns": worked("facts_worked", "regions_feed_each_other"),
+    "filled hole": worked("facts_worked", "hole_is_filled"),
+    "running body": worked("mir_worked", "running"),
+    "many": (MANY, f"'static: {EACH_POINT} end('static)\n'1: {EACH_POINT}\n'2: {EACH_POINT}\n"),
 }
 TESTS = ["queues_and_words", "queues_and_lock", "rings_and_words", "rings_and_lock", "a_body_over_queues",
          "a_body_over_rings", "full_queues", "full_rings"]
@@ -75,8 +72,8 @@ def jobs_of(nllc, tests, folder):
     jobs = []
     for name, (text, values) in PROBLEMS.items():
         path = os.path.join(folder, name.replace(" ", "_"))
-        pathlib.Path(path).write_text(text, encoding="ascii")
-        for ways, refusals in ((ONE_THREAD, {MEMORY}), (OWNERS, {MEMORY, THREAD})):
+        pathlib.Path(path).write_text(text)
+        for ways, refusals in ((ONE_THREAD, {MEMORY}), (OWNERS, {MEMORY, UNSTARTED})):
             for way in ways:
                 told = " ".join([f"values of {name}", *way])
                 jobs.append(Job(told, [nllc, "values", *way, path], (0, values.encode(), b""), refusals))
@@ -123,7 +120,7 @@ class Refuser:
         """Refuses each growth of a job, as long as there is time; prints what went wrong."""
         usual = [self.allocator.run(job.command, 0, SECONDS_EACH) for _ in range(3)]
         growths, most_left = usual[0].growths, max(run.left for run in usual)
-        most_left += KEPT_BY_THREADS if THREAD in job.refusals else 0
+        most_left += KEPT_BY_THREADS if UNSTARTED in job.refusals else 0
         wrong = sum(not is_right(job, run) for run in usual)
         if wrong or not growths:
             print(f"{job.name}, nothing refused: {usual[0].answer!r}, {growths} growths of memory")
@@ -162,17 +159,17 @@ def refuse_all(jobs, allocator, number, seconds):
     return counts
 
 
-def read_words(words, root):
+def read_words(words):
     parser = argparse.ArgumentParser(description=__doc__.split("\n", maxsplit=1)[0])
     parser.add_argument("--seconds", type=float, default=100.0, help="what isn't tried after this time is skipped")
-    parser.add_argument("--nllc", default=str(root / "crates/nllc/out/nllc"))
-    parser.add_argument("--tests", default=str(root / "crates/nll_run_tests/out/nll_run_tests_tests"))
+    parser.add_argument("--nllc", default=str(PROGRAM))
+    parser.add_argument("--tests", default=str(ROOT / "crates/nll_run_tests/out/nll_run_tests_tests"))
     parser.add_argument("--before", default="0 passed, 0 failed", help="the last line of `rt ci`")
     return parser.parse_args(words)
 
 
-def main(words, root=ROOT):
-    asked = read_words(words, root)
+def main(words):
+    asked = read_words(words)
     before = re.fullmatch(r"(\d+) passed, (\d+) failed", asked.before)
     if not before:
         print(f"--before {asked.before}: no line as `rt ci` ends with", file=sys.stderr)

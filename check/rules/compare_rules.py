@@ -12,7 +12,6 @@ that depends on crates of Debian's packages; `-p NAME` chooses one.
 
 import argparse
 import os
-import pathlib
 import resource
 import subprocess
 import sys
@@ -21,20 +20,17 @@ from collections import Counter
 from concurrent.futures import ProcessPoolExecutor
 from dataclasses import dataclass, field
 
-HERE = pathlib.Path(__file__).resolve().parent
-sys.path[:0] = [str(HERE), str(HERE.parent.parent / "frontend")]
+from nllc_tools.base.refusal import Refusal
+from nllc_tools.base.workers import keep_silent
+from nllc_tools.base.world_program import find as find_world
+from nllc_tools.commands.inputs import split_words
+from nllc_tools.commands.mir import dumps_of_crate, dumps_of_file
+from nllc_tools.commands.texts import problem_of
+from nllc_tools.rustc.unsaid import NotSaid
+from nllc_tools.texts.mir.functions import texts_of
 
-from nllc_tools.base.refusal import Refusal  # noqa: E402 (the paths stand above)
-from nllc_tools.base.workers import keep_silent  # noqa: E402
-from nllc_tools.base.world_program import find as find_world  # noqa: E402
-from nllc_tools.commands.inputs import split_words  # noqa: E402
-from nllc_tools.commands.mir import dumps_of_crate, dumps_of_file  # noqa: E402
-from nllc_tools.commands.texts import problem_of  # noqa: E402
-from nllc_tools.rustc.unsaid import NotSaid  # noqa: E402
-from nllc_tools.texts.mir.functions import texts_of  # noqa: E402
-
-from classes import UNEXPLAINED, differences  # noqa: E402
-from sides import Answering, Reading, both_of, differing  # noqa: E402
+from classes import UNEXPLAINED, differences
+from sides import Answering, Reading, both_of, differing
 
 
 @dataclass

@@ -9,6 +9,7 @@ import subprocess
 from collections import defaultdict
 from dataclasses import dataclass, field
 
+from nllc_tools.base import walks
 from nllc_tools.commands.rules import numbers_of
 from nllc_tools.model.facts import ALL, Facts
 from nllc_tools.model.points import Points
@@ -99,10 +100,15 @@ def differing(rules: dict[int, frozenset[int]], facts: dict[int, frozenset[int]]
             if region != STATIC and value != facts.get(region, frozenset())]
 
 
+def known(regions: Regions, number):
+    """The region that is known for those that equal one of rustc's; a name that has no number stays."""
+    return number if isinstance(number, str) else regions.find(number)
+
+
 def rules_problem(facts: Facts, function: Function, regions: Regions, count: int) -> tuple[Problem, set[int]]:
     """What the rules make of a MIR text, and the regions in it; a point behind those of rustc is the text's own stop."""
     own = list(map(numbers_of(function), facts.names))
-    numbers = [one if isinstance(one, str) else regions.find(one) for one in own]
+    numbers = [known(regions, one) for one in own]
     universals = {STATIC, *regions.universals}
     problem = Problem()
     for region, base in zip(numbers, facts.bases):
@@ -116,17 +122,10 @@ def rules_problem(facts: Facts, function: Function, regions: Regions, count: int
     return problem, {one for one in numbers if isinstance(one, int)} | {STATIC}
 
 
-def regions_of(names: list[str], function: Function, regions: Regions) -> list:
-    """rustc's regions of a MIR text's names, each by the one that is known for those that equal it."""
-    number = numbers_of(function)
-    found = map(number, names)
-    return [one if isinstance(one, str) else regions.find(one) for one in found]
-
-
 def values_by_rules(said: dict[str, list[str]], function: Function, regions: Regions, points: Points) -> dict:
     """The values of a MIR text: its points are `bb1/2`, of blocks that are cut further than rustc's."""
     names = [name.removeprefix("'") for name in said]
-    numbers = dict(zip(names, regions_of(names, function, regions)))
+    numbers = {name: known(regions, number) for name, number in zip(names, map(numbers_of(function), names))}
     order = {label: number for number, label in enumerate(said["'static"]) if label.startswith("bb")}
     found: dict[int, frozenset[int]] = {}
     for name, elements in zip(names, said.values()):
@@ -177,16 +176,7 @@ def between(constraints: set[tuple], known: set[int]) -> set[tuple[int, int, int
 
 def reached(following: dict, begin, stops: set) -> set:
     """The stops to which chains lead that go through no stop."""
-    found, todo = set(), [begin]
-    seen = set()
-    while todo:
-        for one in following.get(todo.pop(), ()):
-            if one in stops:
-                found.add(one)
-            elif one not in seen:
-                seen.add(one)
-                todo.append(one)
-    return found
+    return walks.reached(following.get(begin, ()), lambda one: () if one in stops else following.get(one, ())) & stops
 
 
 def closed(constraints: set[tuple[int, int, int]], points: set[int]) -> set[tuple[int, int, int]]:
@@ -203,15 +193,6 @@ def closed(constraints: set[tuple[int, int, int]], points: set[int]) -> set[tupl
         own = at_point[at] if at != ALL else {}
         following = {sup: own.get(sup, set()) | everywhere.get(sup, set()) for sup in {*own, *everywhere}}
         for begin in following:
-            found |= {(begin, end, at) for end in chained(following, begin)}
-    return found
-
-
-def chained(following: dict, begin) -> set:
-    found, todo = set(), [begin]
-    while todo:
-        for one in following.get(todo.pop(), ()):
-            if one not in found:
-                found.add(one)
-                todo.append(one)
+            found |= {(begin, end, at)
+                      for end in walks.reached(following[begin], lambda one, onward=following: onward.get(one, ()))}
     return found

@@ -1,21 +1,12 @@
 """Which changes the crates above a crate see, and what is checked after a change."""
 
-import contextlib
-import io
-import os
 import pathlib
-import stat
-import subprocess
-import sys
-import tempfile
 import unittest
 
-ROOT = pathlib.Path(__file__).resolve().parents[2]
-sys.path.insert(0, str(ROOT / "tools"))
-
-import changes  # noqa: E402 (it stands in tools/)
-import check_changed  # noqa: E402
-import crates  # noqa: E402
+from support import ROOT, InRepository
+import changes
+import check_changed
+import crates
 
 SOURCE = """
 ghost use Rattle.std.specs.Prelude.{◌≡◌, ◌<◌, length};
@@ -120,12 +111,9 @@ echo "logic=proved functions=1"
 """
 
 
-class Checking(unittest.TestCase):
+class Checking(InRepository):
     def setUp(self):
-        self.folder = tempfile.TemporaryDirectory()
-        self.addCleanup(self.folder.cleanup)
-        self.room = pathlib.Path(self.folder.name)
-        self.root = self.room / "repository"
+        super().setUp()
         self.write("crates.txt", "low: clap\nmiddle: low\nhigh: middle\nbeside:\n"
                    "low_tests: low\nhigh_tests: high\n")
         for crate, used in crates.uses_of(self.root).items():
@@ -134,28 +122,12 @@ class Checking(unittest.TestCase):
             names = " ".join(crates.below(crates.uses_of(self.root), crate))
             (self.room / f"below-{crate}").write_text(names)
         self.write("crates/low/must-fail/one.edit", "")
-        for words in ("init -q", "add -A", "-c user.name=a -c user.email=a@b commit -q -m a"):
-            subprocess.run(["git", "-C", str(self.root), *words.split()], check=True)
-
-    def write(self, path, text):
-        (self.root / path).parent.mkdir(parents=True, exist_ok=True)
-        (self.root / path).write_text(text)
+        self.commit()
 
     def check(self, words=(), fails=""):
         """What the tool ends with, what `rt` was asked, and what was printed."""
-        rt, said, printed = self.room / "bin" / "rt", self.room / "said", io.StringIO()
-        rt.parent.mkdir(exist_ok=True)
-        said.write_text("")
-        rt.write_text(RT.format(said=said, room=self.room, fails=fails))
-        rt.chmod(rt.stat().st_mode | stat.S_IXUSR)
-        path = os.environ["PATH"]
-        os.environ["PATH"] = f"{rt.parent}:{path}"
-        try:
-            with contextlib.redirect_stdout(printed), contextlib.redirect_stderr(printed):
-                ended = check_changed.main(words, self.root)
-        finally:
-            os.environ["PATH"] = path
-        return ended, said.read_text().splitlines(), printed.getvalue()
+        status, said, printed = self.ended(check_changed.main, words, RT, fails=fails)
+        return status, said.splitlines(), printed
 
     def test_where_nothing_changed_nothing_is_checked(self):
         self.assertEqual(self.check()[:2], (0, []))

@@ -2,16 +2,15 @@
 
 import hashlib
 import os
-import pathlib
 import pty
 import shutil
 import signal
 import subprocess
-import tempfile
 import time
 import unittest
 
-ROOT = pathlib.Path(__file__).resolve().parents[2]
+from support import ROOT, InRepository
+
 PROGRAM = '#!/bin/sh\\necho "answers $*"\\n'
 # An `rt` that makes a program and has it read the pipe, as `rt try` does, with a helper in a session of its own.
 RT = f"""#!/bin/sh
@@ -28,37 +27,20 @@ FAILS = "#!/bin/sh\necho \"$*\" >> {said}\nsleep {seconds}; exit 1\n"
 WAITS = "nllc.sh: another run compiles; waiting for it\n"
 
 
-def hears_the_end():
-    """A run hears that its terminal is gone, also where these tests don't, as under `nohup`."""
-    signal.signal(signal.SIGHUP, signal.SIG_DFL)
-
-
-class Compiling(unittest.TestCase):
+class Compiling(InRepository):
     def setUp(self):
-        folder = tempfile.TemporaryDirectory()
-        self.addCleanup(folder.cleanup)
-        self.folder = pathlib.Path(folder.name)
-        self.root, self.said = self.folder / "repository", self.folder / "said"
+        super().setUp()
         for name in ("crates/nllc/src", "crates/nllc/specs", "tools", "bin"):
             (self.root / name).mkdir(parents=True)
-        (self.root / "crates.txt").write_text("nllc:\n")
-        (self.root / "crates/nllc/src/main.rt").write_text("fn main() {}\n")
+        self.write("crates.txt", "nllc:\n")
+        self.write("crates/nllc/src/main.rt", "fn main() {}\n")
         for name in ("nllc.sh", "tools/compile_unproved.py"):
             shutil.copy(ROOT / name, self.root / name)
 
     def rt(self, text=RT, seconds="0.5"):
         """The PATH with this `rt`."""
         self.number = f"{os.getpid()}{time.monotonic_ns()}"
-        file = self.folder / "bin" / "rt"
-        file.parent.mkdir(exist_ok=True)
-        file.write_text(text.format(said=self.said, seconds=seconds, number=self.number))
-        file.chmod(0o755)
-        return f"{file.parent}:{os.environ['PATH']}"
-
-    def start(self, path, *words, **more):
-        return subprocess.Popen([str(self.root / "nllc.sh"), *words], stdin=subprocess.DEVNULL, stdout=subprocess.PIPE,
-                                text=True, env={**os.environ, "PATH": path, "NLLC": ""}, preexec_fn=hears_the_end,
-                                **{"stderr": subprocess.PIPE, **more})
+        return self.path_with(text, seconds=seconds, number=self.number)
 
     def compiles(self):
         return len(self.said.read_text().splitlines()) if self.said.exists() else 0
@@ -77,17 +59,17 @@ class Compiling(unittest.TestCase):
 
     def run_many(self, rt, number):
         """Starts so many runs, and lets the one compile end once all others wait for it; each one's status, and what all said."""
-        go = self.folder / "go"
+        go = self.room / "go"
         path = self.rt(rt, seconds=f"0; until [ -e {go} ]; do sleep 0.05; done")
-        files = [open(self.folder / f"told{one}", "w+", encoding="utf-8") for one in range(number)]
+        files = [open(self.room / f"told{one}", "w+", encoding="utf-8") for one in range(number)]
         runs = [self.start(path, "check", f"F{one}", stderr=file) for one, file in enumerate(files)]
-        self.wait_until(lambda: sum((self.folder / f"told{one}").read_text().count(WAITS) for one in range(number)) == number - 1,
+        self.wait_until(lambda: sum((self.room / f"told{one}").read_text().count(WAITS) for one in range(number)) == number - 1,
                         120)
         go.touch()
         outs = [run.communicate(timeout=120)[0] for run in runs]
         for file in files:
             file.close()
-        return [run.returncode for run in runs], outs, [(self.folder / f"told{one}").read_text() for one in range(number)]
+        return [run.returncode for run in runs], outs, [(self.room / f"told{one}").read_text() for one in range(number)]
 
     def test_many_first_runs_make_one_compile(self):
         statuses, outs, told = self.run_many(RT, 8)
@@ -136,7 +118,7 @@ class Compiling(unittest.TestCase):
 
     @unittest.skipIf(os.geteuid() == 0 and not shutil.which("setpriv"), "root may write anywhere")
     def test_out_cannot_be_written(self):
-        self.folder.chmod(0o755)
+        self.room.chmod(0o755)
         path, few = self.rt(), ["setpriv", "--reuid=65534", "--clear-groups"] if os.geteuid() == 0 else []
         self.root.chmod(0o555)
         done = subprocess.run([*few, str(self.root / "nllc.sh"), "check", "F"], capture_output=True, text=True,
@@ -147,7 +129,7 @@ class Compiling(unittest.TestCase):
                                       "Permission denied\n")
 
     def test_no_rt(self):
-        few = self.folder / "few"
+        few = self.room / "few"
         few.mkdir()
         (few / "python3").symlink_to(shutil.which("python3", path="/usr/bin:/usr/local/bin"))
         run = self.start(str(few), "check", "F")
@@ -183,12 +165,6 @@ class Compiling(unittest.TestCase):
         program = self.root / "out/nllc-unproved"
         self.assertEqual(lines, {"nllc,": "commit unknown", "program:": f"{program}, which isn't proved", "kit:": "a kit",
                                  "sha256:": hashlib.sha256(program.read_bytes()).hexdigest()})
-
-    def test_help(self):
-        done = subprocess.run([str(ROOT / "tools/compile_unproved.py"), "--help"], capture_output=True, text=True,
-                              check=False)
-        self.assertEqual((done.returncode, done.stderr), (0, ""))
-        self.assertIn("Compiles a program without proofs", done.stdout)
 
 
 if __name__ == "__main__":

@@ -1,28 +1,26 @@
-"""Each definition of specs/ has its comment, and tools/definitions.py finds it and what it stands on."""
+"""Each definition of specs/ has its comment and stands in one crate, and tools/definitions.py finds it and what it stands on."""
 
 import collections
-import contextlib
-import io
-import pathlib
 import re
-import sys
 import unittest
 
-ROOT = pathlib.Path(__file__).resolve().parents[2]
-sys.path.insert(0, str(ROOT / "tools"))
-
-import definitions  # noqa: E402 (it stands in tools/)
+import support
+from support import ROOT
+import definitions
 
 # A line that begins a definition, at any depth; and one of a mutual block, which has lines that begin with its name.
 BEGUN = re.compile(r"^ *(?:abbrev (?:pub )?(?!mutual)|pub record |pub data )([^\s:(\[{]+)", re.M)
 MUTUAL = re.compile(r"^( +)pub (?!record |data )(\S+) (?=[\s\S]*^\1\2 (?!=))", re.M)
 
+# Words of `fixpoint` that `nll_owner` and `nll_run` say once more, of regions.
+OF_REGIONS = ("AreRanked AreSettled IsDone IsNoted IsSaturated IsTold IsWellSupported Passes SayLeast given_to list_in "
+              "list_of part part_for received_from")
+# Others, each in two crates.
+OTHERS = ("AreSound ComesNext ComesTo Finishes IsClosed IsCounted IsNew IsOf IsTable known nothing sent_by")
+
 
 def printed(*words):
-    out, err = io.StringIO(), io.StringIO()
-    with contextlib.redirect_stdout(out), contextlib.redirect_stderr(err):
-        status = definitions.main(list(words))
-    return status, out.getvalue(), err.getvalue()
+    return support.printed(definitions.main, list(words))
 
 
 def is_lemma(crate, file, name):
@@ -118,6 +116,21 @@ class Resting(unittest.TestCase):
         """`IsEarlier` is of another file than that from which a contract has it."""
         names = definitions.known(ROOT, "nll_problem", "Faults")
         self.assertEqual(definitions.meant(ROOT, names, "IsEarlier").file, "Problem")
+
+
+def clashes():
+    crates = collections.defaultdict(set)
+    for one in definitions.all_definitions():
+        for name in one.names:
+            crates[name].add(one.crate)
+    return {name: sorted(found) for name, found in crates.items() if len(found) > 1}
+
+
+class Names(unittest.TestCase):
+    def test_a_name_stands_in_one_crate(self):
+        found, known = clashes(), f"{OF_REGIONS} {OTHERS}".split()
+        self.assertEqual({name: crates for name, crates in found.items() if name not in known}, {})
+        self.assertEqual([name for name in known if name not in found], [])
 
 
 if __name__ == "__main__":

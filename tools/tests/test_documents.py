@@ -1,38 +1,41 @@
-"""What documents show below a `$` is what the definitions give, by the slow programs of check/reference/."""
+"""What documents show is so: answers, below a `$`, by the slow programs of check/reference/; definitions and contracts, and how
+many there are; drawings of the examples; tables of what was measured; and what they name."""
 
 import pathlib
 import re
 import subprocess
 import sys
+import tempfile
 import unittest
+import xml.etree.ElementTree as tree
 from concurrent.futures import ThreadPoolExecutor
 
-ROOT = pathlib.Path(__file__).resolve().parents[2]
-sys.path.insert(0, str(ROOT / "tools"))
-
-import definitions  # noqa: E402 (it stands in tools/)
+from support import ROOT
+import definitions
+import drawings
+import tables
 
 DOCUMENTS = ["README.md", "docs/LEARNING.md"]
 ANSWER = re.compile(r"\./nllc\.sh (values|check) ")
 OF_NO_CRATE = {"Are", "HANDLES", "pthread_create", "pthread_join", "sched_yield", "syscall"}
+PROOF = (ROOT / "docs/PROOF.md").read_text()
+QUOTED = ("abbrev pub ", "pub record ", "pub fn ", "-- ")
+MUST = ("Least", "AreFaults", "solve", "read_facts", "run", "IsRunOutcome", "drive")
+MOST_APART = 0.05       # of counts, which change with each definition
 
 
 def shown(document):
     """The commands of a document that ask for an answer, each with the lines shown below it."""
     command, lines = None, []
-    for line in (ROOT / document).read_text().splitlines():
-        if line.startswith("    $ "):
-            if command:
-                yield command, lines
-            command, lines = line[6:], []
-        elif line.startswith("    "):
-            lines.append(line[4:])
-        else:
-            if command:
-                yield command, lines
+    for line in [*(ROOT / document).read_text().splitlines(), ""]:
+        is_command = line.startswith("    $ ")
+        if command and (is_command or not line.startswith("    ")):
+            yield command, lines
             command, lines = None, []
-    if command:
-        yield command, lines
+        if is_command:
+            command = line[6:]
+        elif command:
+            lines.append(line[4:])
 
 
 def answered(command):
@@ -132,7 +135,6 @@ class Documents(unittest.TestCase):
             for link in set(linked):
                 self.assertTrue((path.parent / link).exists(), f"{path}: {link}")
 
-
     def test_contents(self):
         """A document of more than 3,000 words begins with its headings, and links to headings lead to one."""
         for path in sorted((ROOT / "docs").glob("**/*.md")):
@@ -155,6 +157,78 @@ def stands_in(lines, path):
     """Whether the lines stand in a text in this order, where `..` stands for any lines."""
     rest = iter(path.read_text().splitlines())
     return all(line == ".." or line in rest for line in lines)
+
+
+class Proof(unittest.TestCase):
+    def test_quotations(self):
+        sources = [path.read_text() for kind in ("specs/*.antt", "src/**/*.rt")
+                   for path in sorted((ROOT / "crates").glob(f"*/{kind}"))]
+        blocks = [re.sub(r"^    ", "", block, flags=re.M).strip("\n")
+                  for block in re.findall(r"(?:^(?:    .*)?\n)+", PROOF, re.M) if block.strip()]
+        quoted = [part for block in blocks for part in re.split(r"\n\n+", block) if part.startswith(QUOTED)]
+        for part in quoted:
+            with self.subTest(begins=part.splitlines()[0]):
+                self.assertTrue(any(part in source for source in sources))
+        names = {name for part in quoted for name in re.findall(r"(?:abbrev pub|pub record|pub fn) (\w+)", part)}
+        self.assertLessEqual(set(MUST), names)
+
+    def test_counts(self):
+        rows = re.findall(r"^\| `(nll_\w+)` `(\w+)` \| ([\d,]+) \| ([\d,]+) \|$", PROOF, re.M)
+        self.assertTrue(rows)
+        for crate, function, count, lines in rows:
+            found = definitions.rests_on(ROOT, crate, function)
+            for said, have in ((count, len(found)),
+                               (lines, sum(len(definitions.without_comments(one.text)) for one in found))):
+                with self.subTest(crate=crate, function=function):
+                    self.assertLessEqual(abs(int(said.replace(",", "")) - have), MOST_APART * have, have)
+
+    def test_the_edits_are_counted(self):
+        [said] = re.findall(r"(\d+) wrong bodies", PROOF)
+        found = [path for path in (ROOT / "crates").glob("*/*/*.edit") if path.parent.name != "tried-bodies"]
+        self.assertLessEqual(abs(int(said) - len(found)), MOST_APART * int(said))
+
+
+class Drawings(unittest.TestCase):
+    def test_they_are_up_to_date(self):
+        for name in drawings.DRAWINGS:
+            with self.subTest(name=name):
+                self.assertEqual((ROOT / "docs/pictures" / f"{name}.svg").read_text(), drawings.drawing(name))
+
+    def test_each_is_shown(self):
+        shown = re.findall(r"pictures/([\w-]+)\.svg", (ROOT / "docs/LEARNING.md").read_text())
+        self.assertEqual(sorted(shown), sorted(drawings.DRAWINGS))
+
+    def test_what_is_lit(self):
+        """A row of a point is filled where the region holds the point."""
+        root = tree.fromstring(drawings.drawing("running-foo"))
+        rows = [one for one in root if one.tag.endswith("rect") and one.get("height") == str(drawings.ROW)]
+        self.assertEqual([one.get("fill") == drawings.LIT for one in rows], [False, True, True, False, False, True, False])
+
+
+class Tables(unittest.TestCase):
+    def test_each_row_has_each_column(self):
+        for path in tables.RESULTS.glob("*.csv"):
+            head, found = tables.read(path)
+            self.assertTrue(head.startswith(f"commit {path.stem}; "), path)
+            for name, (_, columns, rows) in found.items():
+                with self.subTest(path=path.name, table=name):
+                    self.assertTrue(rows)
+                    self.assertEqual({len(row) for row in rows}, {len(columns)})
+
+    def test_documents_show_what_was_measured(self):
+        """`bench/tables.py --write` puts it there."""
+        self.assertTrue(tables.shown_in())
+        for path in tables.shown_in():
+            self.assertEqual(path.read_text(), tables.with_tables(path.read_text()), path)
+
+    def test_some_columns(self):
+        self.assertEqual(tables.markdown(["a", "b"], [["1", "2"]], ["b"]), "| b |\n|---|\n| 2 |\n")
+
+    def test_what_scripts_wrote_is_taken(self):
+        with tempfile.TemporaryDirectory() as folder:
+            (pathlib.Path(folder) / "reading.md").write_text("Four processors.\n\n| Text | s |\n|---|---|\n| a, b | 1 |\n")
+            text = tables.take(folder, "abc", "a machine")
+        self.assertEqual(text, '# commit abc; a machine\n\n# reading: Four processors.\nText,s\n"a, b",1\n')
 
 
 if __name__ == "__main__":

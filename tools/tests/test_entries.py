@@ -1,16 +1,20 @@
-"""The one entry to the checks, check/run, and that to the measurements, bench/run."""
+"""The one entry to the checks, check/run, and that to the measurements, bench/run; and each script that a person starts says
+what it does, and does nothing else, when it's asked for help."""
 
 import importlib.machinery
 import importlib.util
 import os
-import pathlib
 import subprocess
 import sys
 import tempfile
 import unittest
 from unittest import mock
 
-ROOT = pathlib.Path(__file__).resolve().parents[2]
+from support import ROOT
+
+FOLDERS = ("tools", "frontend", "check", "bench", "bench/programs")
+# Those that a person doesn't start.
+OTHERS = {"frontend/cargo-nllc"}    # cargo starts it: `cargo nllc --help`
 
 
 def entry(path):
@@ -26,6 +30,17 @@ def entry(path):
 def run(*words, **environment):
     return subprocess.run([str(ROOT / words[0]), *words[1:]], capture_output=True, text=True, check=False,
                           env=os.environ | environment)
+
+
+def check_names(test, script, names):
+    """Its help has each name, and where no name of these is given it prints the same and ends with 2."""
+    done = run(script, "--help")
+    test.assertEqual((done.returncode, done.stderr), (0, ""))
+    test.assertEqual([name for name in names if f"\n    {name} " not in done.stdout], [])
+    for words in ((), ("none",)):
+        done = run(script, *words)
+        test.assertEqual((done.returncode, done.stdout), (2, ""))
+        test.assertIn(f"{script} NAME", done.stderr)
 
 
 class Checks(unittest.TestCase):
@@ -49,13 +64,7 @@ class Checks(unittest.TestCase):
             self.assertEqual(self.entry.command_of("model", ["--count", "3"])[2:], ["--model", "--count", "3"])
 
     def test_words(self):
-        done = run("check/run", "--help")
-        self.assertEqual((done.returncode, done.stderr), (0, ""))
-        self.assertEqual([name for name in self.entry.CHECKS if f"\n    {name} " not in done.stdout], [])
-        for words in ((), ("none",)):
-            done = run("check/run", *words)
-            self.assertEqual((done.returncode, done.stdout), (2, ""))
-            self.assertIn("check/run NAME", done.stderr)
+        check_names(self, "check/run", self.entry.CHECKS)
         done = run("check/run", "memory", NLLC="/none")
         self.assertEqual((done.returncode, done.stdout), (2, ""))
         self.assertIn("no program at /none", done.stderr)
@@ -94,11 +103,34 @@ class Measurements(unittest.TestCase):
                          ["--program", "P", "--runs", "1"])
 
     def test_words(self):
-        done = run("bench/run", "--help")
-        self.assertEqual((done.returncode, done.stderr), (0, ""))
-        self.assertEqual([name for name in self.entry.MEASUREMENTS if f"\n    {name} " not in done.stdout], [])
-        self.assertEqual(run("bench/run", "none").returncode, 2)
+        check_names(self, "bench/run", self.entry.MEASUREMENTS)
         self.assertEqual(run("bench/run", "line", NLLC="/none").returncode, 2)
+
+
+def scripts():
+    for folder in FOLDERS:
+        for path in sorted((ROOT / folder).iterdir()):
+            if path.is_file() and os.access(path, os.X_OK) and str(path.relative_to(ROOT)) not in OTHERS:
+                yield path
+
+
+class Help(unittest.TestCase):
+    def test_each_script(self):
+        self.assertGreater(len([*scripts()]), 15)
+        with tempfile.TemporaryDirectory() as room:
+            for path in scripts():
+                with self.subTest(script=path.relative_to(ROOT)):
+                    done = subprocess.run([str(path), "--help"], cwd=room, capture_output=True, text=True, check=False,
+                                          stdin=subprocess.DEVNULL, env={**os.environ, "PYTHONDONTWRITEBYTECODE": "1"},
+                                          timeout=60)
+                    self.assertEqual((done.returncode, done.stderr), (0, ""))
+                    self.assertGreater(len(done.stdout.split()), 8)
+                    self.assertEqual(os.listdir(room), [])
+
+    def test_words_that_these_do_not_take(self):
+        for script in ("tools/prove.py", "tools/compile_unproved.py", "frontend/world_program.sh"):
+            done = subprocess.run([str(ROOT / script), "--none"], capture_output=True, text=True, check=False)
+            self.assertEqual((done.returncode, done.stdout), (2, ""), script)
 
 
 if __name__ == "__main__":

@@ -2,18 +2,13 @@
 
 import json
 import os
-import pathlib
-import stat
 import subprocess
 import sys
-import tempfile
 import unittest
 
-ROOT = pathlib.Path(__file__).resolve().parents[2]
-sys.path.insert(0, str(ROOT / "tools"))
-
-import gate_minutes  # noqa: E402 (it stands in tools/)
-import processes  # noqa: E402
+from support import ROOT, InRepository
+import gate_minutes
+import processes
 
 # A process named rattle is the shell, which runs the file of its first word: it works until it was seen.
 WORK = "while [ ! -e {room}/seen-$$ ]; do :; done\n"
@@ -30,6 +25,7 @@ exit 1
 # Runs the tool on another repository, looks more often, and tells which processes it has seen at work.
 MAIN = """
 import pathlib, sys, gate_minutes, processes
+
 look, root = processes.Watch.look, pathlib.Path(sys.argv[1])
 
 def look_and_tell(watch):
@@ -91,7 +87,7 @@ class Table(unittest.TestCase):
 
 class Budget(unittest.TestCase):
     def test_each_crate_has_one(self):
-        crates = [crate for names in gate_minutes.layers().values() for crate in names]
+        crates = [crate for _, _, names in gate_minutes.layers_of(ROOT) for crate in names]
         self.assertEqual(sorted(gate_minutes.budgets()), sorted(crates))
 
     def test_the_gates_document_has_that_of_each_layer(self):
@@ -105,11 +101,10 @@ class Budget(unittest.TestCase):
         self.assertNotIn("above", gate_minutes.table(yardstick(1), None))
 
 
-class Running(unittest.TestCase):
+class Running(InRepository):
     def setUp(self):
-        self.folder = tempfile.TemporaryDirectory()
-        self.root = pathlib.Path(self.folder.name)
-        self.addCleanup(self.folder.cleanup)
+        super().setUp()
+        self.root = self.room
         for place in ("crates/low", "rt-edit-a"):
             (self.root / place).mkdir(parents=True)
             for verb in ("build", "check", "fmt"):
@@ -119,10 +114,7 @@ class Running(unittest.TestCase):
 
     def run_on(self, words, rt):
         """What the tool ends with, and what is printed, in a small repository with this `rt`."""
-        file = self.root / "bin/rt"
-        file.write_text(rt.format(bin=self.root / "bin", room=self.root))
-        file.chmod(file.stat().st_mode | stat.S_IXUSR)
-        path = f"{file.parent}:{os.environ['PATH']}"
+        path = self.path_with(rt, bin=self.root / "bin")
         done = subprocess.run([sys.executable, "-c", MAIN, self.root, *words], cwd=ROOT / "tools", text=True,
                               stdout=subprocess.PIPE, env=os.environ | {"PATH": path})
         return done.returncode, done.stdout

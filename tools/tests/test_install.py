@@ -9,7 +9,8 @@ import sys
 import tempfile
 import unittest
 
-ROOT = pathlib.Path(__file__).resolve().parents[2]
+from support import ROOT
+
 EXAMPLES = ROOT / "examples"
 # Where the proved programs are; here they are the slow programs from the definitions.
 PROGRAMS = {"crates/nllc/out/nllc": "reference.py",

@@ -1,24 +1,18 @@
 """How `nllc.sh --prove` proves, tells how far it is, and ends; and what reads the lines of `rt all`."""
 
-import contextlib
 import io
 import os
-import pathlib
 import shutil
 import signal
-import stat
 import subprocess
 import sys
-import tempfile
 import time
 import unittest
 import unittest.mock
 
-ROOT = pathlib.Path(__file__).resolve().parents[2]
-sys.path.insert(0, str(ROOT / "tools"))
-
-import prove  # noqa: E402 (it stands in tools/)
-import proving  # noqa: E402
+from support import ROOT, InRepository, printed
+import prove
+import proving
 
 # An `rt` that proves libraries, and makes a program.
 PROVES = """#!/bin/sh
@@ -51,47 +45,32 @@ def is_running(number):
         return False
 
 
-class Proving(unittest.TestCase):
+class Proving(InRepository):
     def setUp(self):
-        self.folder = tempfile.TemporaryDirectory()
-        self.addCleanup(self.folder.cleanup)
-        self.root = pathlib.Path(self.folder.name) / "repository"
-        self.said = pathlib.Path(self.folder.name) / "said"
+        super().setUp()
         for file in ("low/src/lib.rt", "beside/src/lib.rt", "nllc/src/main.rt"):
-            (self.root / "crates" / file).parent.mkdir(parents=True)
-            (self.root / "crates" / file).write_text("fn main() {}\n")
-        (self.root / "crates.txt").write_text("low:\nbeside: low\nnllc: low\n")
+            self.write(f"crates/{file}", "fn main() {}\n")
+        self.write("crates.txt", "low:\nbeside: low\nnllc: low\n")
         (self.root / "tools").mkdir()
         for name in ("nllc.sh", "tools/prove.py", "tools/rooms.py", "tools/shares.py", "tools/proving.py", "tools/crates.py"):
             shutil.copy(ROOT / name, self.root / name)
 
-    def script(self, path, *words):
-        """Starts the script of a small repository with this PATH."""
-        return subprocess.Popen([str(self.root / "nllc.sh"), *words], stdout=subprocess.PIPE, text=True,
-                                stderr=subprocess.PIPE, start_new_session=True,
-                                preexec_fn=lambda: signal.signal(signal.SIGINT, signal.SIG_DFL),
-                                env={**os.environ, "PATH": path, "NLLC": ""})
-
-    def start(self, rt, *words):
+    def start_with(self, rt, *words):
         """Starts the script with this `rt`."""
-        file = pathlib.Path(self.folder.name) / "bin" / "rt"
-        file.parent.mkdir(exist_ok=True)
-        file.write_text(rt.format(said=self.said, root=self.root))
-        file.chmod(file.stat().st_mode | stat.S_IXUSR)
-        return self.script(f"{file.parent}:{os.environ['PATH']}", *words)
+        return self.start(self.path_with(rt), *words, start_new_session=True)
 
     def run_without_rt(self, *words):
         """The status where the PATH has no more than what the script needs beside `rt`."""
-        few = pathlib.Path(self.folder.name) / "few"
+        few = self.room / "few"
         few.mkdir()
         for name in ("dirname", "readlink", "find"):
             (few / name).symlink_to(shutil.which(name))
-        running = self.script(str(few), *words)
+        running = self.start(str(few), *words, start_new_session=True)
         running.communicate(timeout=300)
         return running.returncode
 
     def run_with(self, rt, *words):
-        running = self.start(rt, *words)
+        running = self.start_with(rt, *words)
         out, told = running.communicate(timeout=300)
         return running.returncode, out, told.replace(str(self.root), "")
 
@@ -143,12 +122,9 @@ class Proving(unittest.TestCase):
         self.assertEqual(told.count("1 of 2 proved: low"), 1, told)
 
     def test_a_crate_is_told_once(self):
-        said = io.StringIO()
         progress = prove.Progress(2)
-        with contextlib.redirect_stderr(said):
-            for crate in ("low", "low", "nllc"):
-                progress.told(crate)
-        self.assertEqual(said.getvalue(), "nllc.sh: 1 of 2 proved: low\nnllc.sh: 2 of 2 proved: nllc\n")
+        _, _, said = printed(lambda: [progress.told(crate) for crate in ("low", "low", "nllc")])
+        self.assertEqual(said, "nllc.sh: 1 of 2 proved: low\nnllc.sh: 2 of 2 proved: nllc\n")
 
     def test_after_a_killed_check_half_as_many_run_at_a_time(self):
         numbers = []
@@ -164,7 +140,7 @@ class Proving(unittest.TestCase):
     def test_a_signal_ends_it_and_rt(self):
         for number, status in ((signal.SIGINT, 130), (signal.SIGTERM, 143)):
             self.said.unlink(missing_ok=True)
-            running = self.start(WAITS, "--prove")
+            running = self.start_with(WAITS, "--prove")
             while not (self.said.exists() and self.said.read_text().strip()):
                 time.sleep(0.02)
             os.kill(running.pid, number)

@@ -1,17 +1,12 @@
 """What has each growth of memory refused, as the last part of the gate: check/refuse/rows.py."""
 
-import contextlib
-import io
 import pathlib
 import subprocess
-import sys
 import tempfile
 import unittest
 
-ROOT = pathlib.Path(__file__).resolve().parents[2]
-sys.path.append(str(ROOT / "check" / "refuse"))
-
-import rows  # noqa: E402 (it stands in check/refuse/)
+from support import printed
+import rows
 
 # A program that asks for memory GROWTHS times. As `nllc` it ends at the first refusal; as a test it tries again.
 PROGRAM = r"""
@@ -57,10 +52,8 @@ class Refusing(unittest.TestCase):
         source.write_text(PROGRAM)
         given = [f"-D{way}={int(way in ways)}" for way in WAYS] + [f"-DGROWTHS={growths}"]
         subprocess.run(["cc", "-O0", "-w", *given, "-o", str(program), str(source)], check=True)
-        printed = io.StringIO()
-        with contextlib.redirect_stdout(printed):
-            status = rows.main(["--nllc", str(program), "--tests", str(program), *words])
-        return status, printed.getvalue().splitlines()
+        status, out, _ = printed(rows.main, ["--nllc", str(program), "--tests", str(program), *words])
+        return status, out.splitlines()
 
     def test_each_growth_is_refused_and_one_more_run_meets_no_refusal(self):
         status, printed = self.ended(words=["--before", "90 passed, 0 failed"])
@@ -89,9 +82,8 @@ class Refusing(unittest.TestCase):
         self.assertEqual((status, printed[-1]), (1, "94 passed, 1 failed"))
 
     def test_a_missing_program_fails(self):
-        with contextlib.redirect_stdout(io.StringIO()) as printed:
-            self.assertEqual(rows.main(["--nllc", self.folder.name + "/none", "--before", "9 passed, 0 failed"]), 1)
-        self.assertEqual(printed.getvalue().splitlines()[-1], "9 passed, 1 failed")
+        status, out, _ = printed(rows.main, ["--nllc", self.folder.name + "/none", "--before", "9 passed, 0 failed"])
+        self.assertEqual((status, out.splitlines()[-1]), (1, "9 passed, 1 failed"))
 
     def test_each_beginning_is_spread(self):
         self.assertEqual(sorted(rows.spread(100)), list(range(1, 101)))

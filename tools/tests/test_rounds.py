@@ -1,15 +1,12 @@
 """Edits of a crate in rounds, and what a check says of each."""
 
 import pathlib
-import sys
 import tempfile
 import unittest
 from unittest import mock
 
-ROOT = pathlib.Path(__file__).resolve().parents[2]
-sys.path.insert(0, str(ROOT / "tools"))
-
-import rounds  # noqa: E402 (it stands in tools/)
+import support  # noqa: F401 (it says where modules stand)
+import rounds
 
 SOURCE = """\
 const MOST: u8 = 9;

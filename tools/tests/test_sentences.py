@@ -7,7 +7,8 @@ import re
 import tempfile
 import unittest
 
-ROOT = pathlib.Path(__file__).resolve().parents[2]
+from support import ROOT
+
 DOCUMENTS = ("README.md", "docs/LEARNING.md", "docs/PROOF.md")
 SCRIPTS = ("frontend", "tools", "check", "bench")
 MOST_WORDS = 30

@@ -1,32 +1,16 @@
 """The tree of the crates: layers and their picture, documents that name each crate, lengths of lines."""
 
-import pathlib
 import re
-import sys
 import unittest
 
-ROOT = pathlib.Path(__file__).resolve().parents[2]
-sys.path.insert(0, str(ROOT / "tools"))
-
-from crates import uses_of  # noqa: E402 (the path stands above)
+from support import ROOT
+from crates import layers_of, uses_of
 
 # Of lines, imports apart, by folder: what they end in, and how many columns they may have.
 COLUMNS = {"src": (".rt", 100), "specs": (".antt", 100), "proofs": (".antt", 120)}
 MOST_WORDS = 170                                    # of a crate's README
 MOST_LONG = {"src": 0, "specs": 0, "proofs": 5}     # lines that are longer
-HEADING = re.compile(r"# ---- ([^:]*)(?:: (.*))?$")
 IMPORT = re.compile(r"\s*(?:pub |ghost )*use ")
-
-
-def layers():
-    """The headings of crates.txt, each with what it says and its crates."""
-    found = []
-    for line in (ROOT / "crates.txt").read_text().splitlines():
-        if heading := HEADING.match(line):
-            found.append((heading[1], heading[2], []))
-        elif line and not line.startswith("#"):
-            found[-1][2].append(re.split("[: ]", line)[0])
-    return found
 
 
 def named(text):
@@ -38,7 +22,7 @@ def named(text):
 class Layers(unittest.TestCase):
     def setUp(self):
         self.readme = (ROOT / "crates" / "README.md").read_text()
-        self.layers = layers()
+        self.layers = layers_of(ROOT)
 
     def test_each_crate_has_its_layer(self):
         there = {path.name for path in (ROOT / "crates").iterdir() if path.is_dir()}
@@ -73,7 +57,7 @@ class Documents(unittest.TestCase):
         """The claims have each crate but those of tests."""
         [claims] = ROOT.glob("docs/**/CLAIMS.md")
         found = named(claims.read_text())
-        for title, _, names in layers():
+        for title, _, names in layers_of(ROOT):
             with self.subTest(layer=title):
                 self.assertEqual([name for name in names if title != "Tests" and name not in found], [])
 
@@ -127,7 +111,6 @@ class Reading(unittest.TestCase):
             with self.subTest(call=call, file=file):
                 found = [path.read_text() for path in (ROOT / "crates").glob(f"*/src/{file}")]
                 self.assertTrue(any(re.search(rf"\bfn {call}\b", one) for one in found))
-
 
     def test_links_of_the_walks(self):
         """A file that is named is linked, to a file of that name; a call that is named with it stands there."""

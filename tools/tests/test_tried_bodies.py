@@ -1,19 +1,10 @@
 """The wrong bodies that the compiler or a test refuses, and the tool that tries them."""
 
-import contextlib
-import io
-import os
-import pathlib
 import re
-import stat
-import sys
-import tempfile
 import unittest
 
-ROOT = pathlib.Path(__file__).resolve().parents[2]
-sys.path.insert(0, str(ROOT / "tools"))
-
-import tried_bodies  # noqa: E402 (it stands in tools/)
+from support import ROOT, InRepository
+import tried_bodies
 
 # An `rt` that writes down what it sees of the crates, and prints what the edited source holds.
 RT = """#!/bin/sh
@@ -47,7 +38,7 @@ class Edits(unittest.TestCase):
         self.assertTrue(edits)
         for name, edit in edits.items():
             texts = {}
-            for path, old, new in edit.changes:
+            for path, old, new in edit.pairs:
                 file = ROOT / "crates" / edit.crate / path
                 text = texts.setdefault(file, file.read_text())
                 self.assertEqual(text.count(old), 1, f"{name}: {old}")
@@ -59,43 +50,23 @@ class Edits(unittest.TestCase):
                 self.assertIn(test, re.findall(tried_bodies.TEST, source.read_text()), name)
 
     def test_a_text_goes_on_behind_a_bar(self):
-        lines = ["file: a", "old: one", "|   two", "new:", "| three", "|four", "old: five", "new: six"]
-        self.assertEqual(tried_bodies.changes_of(lines),
-                         [["a", "one\n  two", "\nthree\nfour"], ["a", "five", "six"]])
+        text = "file: a\nold: one\n|   two\nnew:\n| three\n|four\nold: five\nnew: six\n"
+        self.assertEqual(tried_bodies.pairs_in(text), (("a", "one\n  two", "\nthree\nfour"), ("a", "five", "six")))
 
 
-class Trying(unittest.TestCase):
+class Trying(InRepository):
     def setUp(self):
-        self.folder = tempfile.TemporaryDirectory()
-        self.addCleanup(self.folder.cleanup)
-        self.root = pathlib.Path(self.folder.name) / "repository"
+        super().setUp()
         self.write("crates.txt", "low:\nhigh: low\nlow_tests: low\n")
         self.write("HANDLES", "Handles allowed: none.\n")
         self.write("crates/low/src/lib.rt", "one\n")
         self.write("crates/low_tests/src/lib.rt", "mod rows;\n")
         self.write("crates/low_tests/src/rows.rt", TESTS)
 
-    def write(self, path, text):
-        (self.root / path).parent.mkdir(parents=True, exist_ok=True)
-        (self.root / path).write_text(text)
-
     def try_on(self, text, *words):
         """What the tool ends with, what `rt` was asked and saw, and what was printed, with this edit alone."""
         self.write("crates/low/tried-bodies/two.edit", text)
-        said, printed = pathlib.Path(self.folder.name) / "said", io.StringIO()
-        rt = pathlib.Path(self.folder.name) / "bin" / "rt"
-        rt.parent.mkdir(exist_ok=True)
-        said.write_text("")
-        rt.write_text(RT.format(said=said))
-        rt.chmod(rt.stat().st_mode | stat.S_IXUSR)
-        path = os.environ["PATH"]
-        os.environ["PATH"] = f"{rt.parent}:{path}"
-        try:
-            with contextlib.redirect_stdout(printed), contextlib.redirect_stderr(printed):
-                ended = tried_bodies.main([*words, "--jobs", "1"], self.root)
-        finally:
-            os.environ["PATH"] = path
-        return ended, said.read_text(), printed.getvalue()
+        return self.ended(tried_bodies.main, [*words, "--jobs", "1"], RT)
 
     def test_the_copy_has_what_the_tests_stand_on_and_the_named_test_alone(self):
         _, said, _ = self.try_on(FAILS + "test rows::one ... FAILED")

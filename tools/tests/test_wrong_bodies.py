@@ -1,22 +1,12 @@
 """The wrong bodies of the gate and those beside them, and the tool that tries them."""
 
 import collections
-import contextlib
-import io
-import os
-import pathlib
 import re
-import stat
-import subprocess
-import sys
-import tempfile
 import unittest
 
-ROOT = pathlib.Path(__file__).resolve().parents[2]
-sys.path.insert(0, str(ROOT / "tools"))
-
-import definitions  # noqa: E402 (they stand in tools/)
-import wrong_bodies  # noqa: E402
+from support import ROOT, InRepository
+import definitions
+import wrong_bodies
 
 FOLDERS = sorted(folder for name in wrong_bodies.FOLDERS for folder in ROOT.glob(f"crates/*/{name}"))
 
@@ -27,6 +17,7 @@ OF_STD = {"and", "from_gives", "steps"}
 # An `rt` that writes down what it's asked and sees, and proves the functions that return a number.
 RT = """#!/usr/bin/env python3
 import os, pathlib, re, sys
+
 said = open({said!r}, "a")
 print(*sys.argv[1:], "in", os.path.basename(os.getcwd()), file=said)
 if sys.argv[1] == "all":
@@ -47,22 +38,15 @@ OTHER = "file: src/lib.rt\nold: 2\nnew: two\n"
 NOT_WRONG = "file: src/lib.rt\nold: 1\nnew: 3\n"
 
 
-def pairs_of(edit):
-    """The file that an edit changes, and its texts to be found there."""
-    file = re.search(r"^file: (.*)$", edit.read_text(), re.M)[1]
-    return file, re.findall(r"^old: (.*)$", edit.read_text(), re.M)
-
-
 class Edits(unittest.TestCase):
     def test_each_can_be_applied(self):
         for folder in FOLDERS:
             self.assertTrue(list(folder.glob("*.edit")), folder)
             for edit in folder.glob("*.edit"):
-                file, olds = pairs_of(edit)
-                text = (folder.parent / file).read_text()
-                self.assertTrue(olds, edit)
-                for old in olds:
-                    self.assertEqual(text.count(old), 1, f"{edit}: {old}")
+                pairs = wrong_bodies.read_edit(folder.parent.name, edit).pairs
+                self.assertTrue(pairs, edit)
+                for file, old, _ in pairs:
+                    self.assertEqual((folder.parent / file).read_text().count(old), 1, f"{edit}: {old}")
 
     def test_each_says_what_is_wrong_and_what_refuses_it(self):
         silent = [str(edit.relative_to(ROOT)) for folder in FOLDERS for edit in folder.glob("*.edit")
@@ -96,11 +80,9 @@ class Edits(unittest.TestCase):
         self.assertEqual(len(names), len(set(names)))
 
 
-class Trying(unittest.TestCase):
+class Trying(InRepository):
     def setUp(self):
-        self.folder = tempfile.TemporaryDirectory()
-        self.addCleanup(self.folder.cleanup)
-        self.root = pathlib.Path(self.folder.name) / "repository"
+        super().setUp()
         self.write("crates.txt", "low:\nhigh: low\ntop: high\nbeside:\n")
         for crate in ("low", "high", "top", "beside"):
             self.write(f"crates/{crate}/src/lib.rt", SOURCE)
@@ -110,30 +92,9 @@ class Trying(unittest.TestCase):
                            "high/must-fail/gates": WRONG, "beside/must-fail/other": WRONG}.items():
             self.write(f"crates/{edit}.edit", text)
 
-    def write(self, path, text):
-        (self.root / path).parent.mkdir(parents=True, exist_ok=True)
-        (self.root / path).write_text(text)
-
-    def commit(self):
-        for words in ("init -q", "add -A", "-c user.name=a -c user.email=a@b commit -q -m a"):
-            subprocess.run(["git", "-C", str(self.root), *words.split()], check=True)
-
     def try_on(self, words, proves=0, jobs=1):
         """What the tool ends with, what `rt` was asked and saw, and what was printed."""
-        said, printed = pathlib.Path(self.folder.name) / "said", io.StringIO()
-        rt = pathlib.Path(self.folder.name) / "bin" / "rt"
-        rt.parent.mkdir(exist_ok=True)
-        said.write_text("")
-        rt.write_text(RT.format(said=str(said), proves=proves))
-        rt.chmod(rt.stat().st_mode | stat.S_IXUSR)
-        path = os.environ["PATH"]
-        os.environ["PATH"] = f"{rt.parent}:{path}"
-        try:
-            with contextlib.redirect_stdout(printed), contextlib.redirect_stderr(printed):
-                ended = wrong_bodies.main([*words, "--jobs", str(jobs)], self.root)
-        finally:
-            os.environ["PATH"] = path
-        return ended, said.read_text(), printed.getvalue()
+        return self.ended(wrong_bodies.main, [*words, "--jobs", str(jobs)], RT, proves=proves)
 
     def tried(self, words):
         """The edits that are tried, by what is printed."""
