@@ -14,7 +14,7 @@ import definitions  # noqa: E402
 OF_REGIONS = ("AreRanked AreSettled IsDone IsNoted IsSaturated IsTold IsWellSupported Passes SayLeast given_to list_in "
               "list_of part part_for received_from")
 # Others, each in two crates.
-OTHERS = ("AreSound ComesNext ComesTo Finishes IsClosed IsCounted IsNew IsOf IsTable known nothing sent_by")
+OTHERS = ""
 
 
 def clashes():

@@ -207,19 +207,19 @@ pub struct Parts;
 impl Split<Known> for Parts {
     ghost use Rattle.std.specs.Prelude.{false};
     ghost use Rattle.ledger.specs.Figures.{fewer, fresh};
-    ghost use Rattle.ledger.specs.Lock.{known};
+    ghost use Rattle.ledger.specs.Lock.{knowing};
 
-    ghost left = { λ old. known (fewer old.figures) old.holds old.held };
+    ghost left = { λ old. knowing (fewer old.figures) old.holds old.held };
 
-    ghost right = { λ old. known fresh false old.held };
+    ghost right = { λ old. knowing fresh false old.held };
 }
 
 impl Join<Known> for Parts {
     ghost use Rattle.std.specs.Prelude.{false};
     ghost use Rattle.ledger.specs.Figures.{together};
-    ghost use Rattle.ledger.specs.Lock.{known, spent};
+    ghost use Rattle.ledger.specs.Lock.{knowing, spent};
 
-    ghost both = { λ one other. known (together one.figures other.figures) false one.held };
+    ghost both = { λ one other. knowing (together one.figures other.figures) false one.held };
 
     ghost spent = { spent };
 }

@@ -10,7 +10,7 @@ use Rattle.std.proofs.lemmas.List.Sorted.{sorted_far, ranks_by, Contains-permuta
 use Rattle.nll_sets.specs.Runs.{first_of, last_of}
 use Rattle.nll_sets.specs.declared.run.Run.{Run}
 use Rattle.nll_problem.specs.BaseRuns.{IsInBaseRun, IsInBaseRuns}
-use Rattle.nll_live.specs.BaseRuns.{GainsRuns, GetsBaseRun, ComesNext, base_run_cmp}
+use Rattle.nll_live.specs.BaseRuns.{GainsRuns, GetsBaseRun, RunComesNext, base_run_cmp}
 use Rattle.nll_problem.specs.declared.base_run.BaseRun.{BaseRun}
 
 -- ---- what runs cover
@@ -151,7 +151,7 @@ module _ (xs : List BaseRun) (sorted : IsSorted base_run_cmp xs) (n : ℕ) (s : 
 
   module _ (pairs : List (ℕ × ℕ)) (each : (r p : ℕ) → Contains pairs (r, p) ↔ IsInBaseRuns (take n xs) r p) where
     -- the next run comes next
-    pub comes_next : ComesNext s pairs
+    pub comes_next : RunComesNext s pairs
     comes_next r q h =
         let c = (each r q).0 h in
         ⊎_elim

@@ -6,7 +6,7 @@ use Rattle.std.proofs.lemmas.List.{get_or_default}
 use Rattle.std.proofs.lemmas.List.Elements.{Contains-get_or, Contains-push, Contains-push_cases, Contains-append_left}
 use Rattle.std.proofs.lemmas.List.Quantifiers.{all_pairs_push}
 use Rattle.nll_problem.specs.Problem.{IsEarlier}
-use Rattle.nll_live.specs.BaseRuns.{GetsPoints, GetsBaseRun, ComesNext, AreSmall}
+use Rattle.nll_live.specs.BaseRuns.{GetsPoints, GetsBaseRun, RunComesNext, AreSmall}
 use Rattle.nll_problem.specs.declared.base_run.BaseRun.{BaseRun}
 
 -- all pairs come before this one
@@ -122,7 +122,7 @@ module _ (pairs : List (ℕ × ℕ)) (ascending : AllPairs IsEarlier pairs) (reg
 
 -- ---- one run
 
-module _ (s : BaseRun) (old : List (ℕ × ℕ)) (next : ComesNext s old) where
+module _ (s : BaseRun) (old : List (ℕ × ℕ)) (next : RunComesNext s old) where
   pub none_behind : (r p : ℕ) → Contains old (r, p) → r ≤ s.region
   none_behind r p h = ⊎_elim (λ low. omega (arith, low)) (λ on. omega (arith, on.0)) (next r p h)
 

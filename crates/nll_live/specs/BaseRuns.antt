@@ -22,8 +22,8 @@ GetsBaseRun s old new = (r p : ℕ) → Contains new (r, p) ↔ (Contains old (r
 
 -- of the region of the run, the pairs have what lies in it before one that they have; they have
 -- none of a later region
-abbrev pub ComesNext : BaseRun → List (ℕ × ℕ) → Type 0
-ComesNext s pairs = (r q : ℕ) → Contains pairs (r, q)
+abbrev pub RunComesNext : BaseRun → List (ℕ × ℕ) → Type 0
+RunComesNext s pairs = (r q : ℕ) → Contains pairs (r, q)
     → (r < s.region)
     ⊎ ((r ≡ s.region) × ((p : ℕ) → s.first ≤ p → p ≤ q → Contains pairs (r, p)))
 

@@ -8,7 +8,7 @@ ghost use Rattle.nll_sets.specs.ElementSet.{flag};
 ghost use Rattle.nll_problem.specs.At.{IsAmong};
 ghost use Rattle.nll_problem.specs.Graph.{element_count};
 ghost use Rattle.nll_problem.specs.Solution.{IsAskedIn, Least};
-ghost use Rattle.nll_core.specs.Growing.{Gains, Tells, StaysBelow, IsAskedBy, Meets, IsClosed};
+ghost use Rattle.nll_core.specs.Growing.{Gains, Tells, StaysBelow, IsAskedBy, Meets, MeetsEach};
 ghost use Rattle.nll_core.specs.Values.{set_of, IsHeld, IsShaped};
 
 use nll_core::{
@@ -42,7 +42,7 @@ fn round(alloc: Global, problem: &Problem, values: &mut Values) -> Result<bool, 
     ensures kept { (r e : ℕ) → IsHeld values.old r e → IsHeld values.new r e }
     ensures below { StaysBelow problem.now values.old values.new }
     ensures tells { IfOk result (λ changed. Tells changed values.old values.new) }
-    ensures closed { IfOk result (λ changed. changed ≡ false → IsClosed problem.now values.old) }
+    ensures closed { IfOk result (λ changed. changed ≡ false → MeetsEach problem.now values.old) }
 {
     let mut changed = false;
     for constraint in problem.constraints() {

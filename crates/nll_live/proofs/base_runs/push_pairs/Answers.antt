@@ -3,13 +3,13 @@ use Rattle.std.proofs.lemmas.Bool.{cases_lt}
 use Rattle.std.proofs.lemmas.List.{take_all}
 use Rattle.nll_problem.specs.BaseRuns.{IsInBaseRuns}
 use Rattle.nll_problem.specs.declared.base_run.BaseRun.{BaseRun}
-use Rattle.nll_live.specs.BaseRuns.{ComesNext, GetsBaseRun}
+use Rattle.nll_live.specs.BaseRuns.{RunComesNext, GetsBaseRun}
 use Rattle.nll_live.proofs.BaseRunLemmas.{comes_next, pairs_step}
 use Rattle.nll_live.proofs.PairLemmas.{none_behind, all_before, base_run_got, small_got}
 use Rattle.nll_live.proofs.base_runs.push_pairs.Goals as goal
 use Rattle.nll_live.proofs.base_runs.push_pairs.Goals.{After-base_run-item, In_ok-push_points}
 
-next : (c : After-base_run-item) → ComesNext c.base_run-item.result c.loop-base_run.pairs.items
+next : (c : After-base_run-item) → RunComesNext c.base_run-item.result c.loop-base_run.pairs.items
 next c =
     comes_next c.args.base_runs.now c.requires.sorted c.loop-base_run.base_run-index c.base_run-item.result
     c.loop-base_run-test.true c.base_run-item.is c.loop-base_run.pairs.items c.loop-base_run.invariant.each
