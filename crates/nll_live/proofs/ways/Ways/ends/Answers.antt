@@ -24,4 +24,5 @@ returns-in-Drop c =
     rw c.in-Drop.is (ends_are body (DropsAt body) (map (λ list. list.items) lists) c.args.variable _
     c.requires.variable (kept_within Drop body c.args.variable) listed
     (c.as_slice-in-Drop.ensures.value ∙ row_here (λ list. list.items) lists c.args.variable c.index-in-Drop.result.now
-    (omega (arith, c.requires.variable, listed.counted, length-map lists (λ list. list.items))) c.index-in-Drop.ensures))
+    (omega (arith, c.requires.variable, listed.counted, length-map lists (λ list. list.items)))
+    c.index-in-Drop.ensures))
