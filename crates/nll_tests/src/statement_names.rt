@@ -1,9 +1,9 @@
 //! Statements of lines in flat lists, over the numbers that the names in them stand for.
 ghost use Rattle.std.specs.Prelude.{◌+◌, ◌≤◌, IfSome};
 
-use nll_body::{Call, FlatCall, Slice, Statement, Statements, Stmt};
+use nll_body::{FlatCall, Slice, Statements, Stmt};
 use nll_core::RegionId;
-use nll_mir_grammar::{Line, TypeText, Version, line_of};
+use nll_mir_grammar::{Call, Line, Statement, TypeText, Version, line_of};
 use nll_mir_text::{Resolving, Scope, resolve};
 use nll_types::{BodyTypes, Operand, Typed};
 use std::alloc::Global;
@@ -72,7 +72,7 @@ fn add_call(
     scope: &Scope<'_>,
     types: &mut BodyTypes,
     statements: &mut Statements,
-    call: &Call<&[u8], TypeText<'_>>,
+    call: &Call<'_>,
 ) -> Option<()> {
     let (argument, pair) = statements.call_counts();
     add_arguments(alloc, scope, types, statements, call.arguments.as_slice())?;
@@ -98,7 +98,7 @@ fn add_statement(
     scope: &Scope<'_>,
     types: &mut BodyTypes,
     statements: &mut Statements,
-    statement: &Statement<&[u8], TypeText<'_>>,
+    statement: &Statement<'_>,
 ) -> Option<()> {
     let added = match statement {
         Statement::Assign(target, operand) => statements.add_assign(target, operand).ok()?,
