@@ -50,7 +50,10 @@ fn resolve_bounds(
         (λ s. (list_all (is_bound names.now) bounds.now ≡ true)
         × IsListedSlice statements.new.pairs (map (bound_numbers names.now) bounds.now) s)) }
 {
-    let slice = Slice::of(statements.call_counts().1, bounds.len())?;
+    let slice = Slice {
+        first: statements.call_counts().1,
+        count: bounds.len(),
+    };
     for bound in bounds {
         let Some(longer) = resolve_region(names, bound.0) else {
             return Ok(None);
@@ -82,7 +85,10 @@ fn resolve_arguments(
         × AreFlatArguments statements.new args s × (fits.new ≡ (fits.old
         && list_all (λ a. has_arguments (scope_of scope.now) (written a.1)) arguments.now)))) }
 {
-    let slice = Slice::of(statements.call_counts().0, arguments.len())?;
+    let slice = Slice {
+        first: statements.call_counts().0,
+        count: arguments.len(),
+    };
     for argument in arguments {
         match resolve(scope, &argument.1, types, made, fits)? {
             Some(ty) => statements.add_argument(&argument.0, ty)?,

@@ -1,5 +1,5 @@
 //! Statements of lines in flat lists, over the numbers that the names in them stand for.
-ghost use Rattle.std.specs.Prelude.{◌+◌, ◌≤◌, IfSome};
+ghost use Rattle.std.specs.Prelude.{◌+◌, ◌≤◌};
 
 use nll_body::{FlatCall, Slice, Statements, Stmt};
 use nll_core::RegionId;
@@ -30,12 +30,12 @@ fn type_of(
 }
 
 // The part of a list that begins here, and ends where the list does.
-fn slice_to(first: usize, end: usize) -> Option<Slice>
-    ensures { IfSome result (λ s. s.first + s.count ≤ end) }
+fn slice_to(first: usize, end: usize) -> Slice
+    ensures { result.first + result.count ≤ end }
 {
     let first = first.min(end);
     let count = end - first;
-    Slice::of(first, count).ok()
+    Slice { first, count }
 }
 
 // Adds the arguments of a call, where the names in their types are known.
@@ -82,9 +82,9 @@ fn add_call(
     let (arguments, pairs) = statements.call_counts();
     let flat = FlatCall {
         place,
-        arguments: slice_to(argument, arguments)?,
+        arguments: slice_to(argument, arguments),
         result,
-        wheres: slice_to(pair, pairs)?,
+        wheres: slice_to(pair, pairs),
         target: call.target,
         unwind: call.unwind,
     };

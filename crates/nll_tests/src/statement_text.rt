@@ -140,7 +140,7 @@ fn write_flat_operand(out: &mut Transcript, at: StatementAt<'_>, operand: FlatOp
 }
 
 // Writes what is made of operands, with a comma after each of them.
-fn write_flat_make(out: &mut Transcript, at: StatementAt<'_>, number: u32) {
+fn write_flat_make(out: &mut Transcript, at: StatementAt<'_>, number: usize) {
     let Some(made) = at.statements.make(number) else {
         return;
     };
@@ -165,7 +165,7 @@ fn write_flat_arguments(out: &mut Transcript, at: StatementAt<'_>, arguments: Sl
 }
 
 // Writes a call: its arguments, its result, and its bounds, two regions each.
-fn write_flat_call(out: &mut Transcript, at: StatementAt<'_>, number: u32) {
+fn write_flat_call(out: &mut Transcript, at: StatementAt<'_>, number: usize) {
     let Some(call) = at.statements.call(number) else {
         return;
     };
@@ -183,7 +183,7 @@ fn write_flat_call(out: &mut Transcript, at: StatementAt<'_>, number: u32) {
 }
 
 // Writes a switch.
-fn write_flat_switch(out: &mut Transcript, at: StatementAt<'_>, number: u32) {
+fn write_flat_switch(out: &mut Transcript, at: StatementAt<'_>, number: usize) {
     let Some(switch) = at.statements.switch(number) else {
         return;
     };
