@@ -2,7 +2,7 @@ use Rattle.std.proofs.Common.{get_or, sym, ◌∙◌, arith}
 use Rattle.std.proofs.lemmas.Bool.{false≢true}
 use Rattle.std.proofs.lemmas.List.Elements.{Contains-get_or}
 use Rattle.nll_core.proofs.SearchLemmas.{past_visits, next_visits, ends_visits}
-use Rattle.nll_core.proofs.reachability.InsideRelation.visit_next.Goals as goal
+use Rattle.nll_core.proofs.frontiers.inside.InsideRelation.visit_next.Goals as goal
 
 pub returns-then-from-points : goal.returns-then-from-points
 returns-then-from-points g c =

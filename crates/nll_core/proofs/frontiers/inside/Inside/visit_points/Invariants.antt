@@ -1,6 +1,6 @@
 use Rattle.std.proofs.Common.{ℕ, ◌<◌, Contains, slice_index}
 use Rattle.nll_core.specs.Search.{IsIn, Within, AddsOfKind}
-use Rattle.nll_core.proofs.reachability.Inside.visit_points.Given as goal
+use Rattle.nll_core.proofs.frontiers.inside.Inside.visit_points.Given as goal
 
 abbrev pub invariant-loop-point : goal.invariant-loop-point
 invariant-loop-point g l =

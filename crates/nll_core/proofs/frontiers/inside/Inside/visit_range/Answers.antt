@@ -2,7 +2,7 @@ use Rattle.std.proofs.Common.{⊎_elim, arith}
 use Rattle.std.proofs.lemmas.Bool.{cases_eq}
 use Rattle.nll_core.specs.Search.{IsInRange, Within, AddsOfKind}
 use Rattle.nll_core.proofs.SearchLemmas.{adds_append, adds_weaker}
-use Rattle.nll_core.proofs.reachability.Inside.visit_range.Goals as goal
+use Rattle.nll_core.proofs.frontiers.inside.Inside.visit_range.Goals as goal
 
 pub loop-number-preserved : goal.loop-number-preserved
 loop-number-preserved g c =

@@ -1,6 +1,6 @@
 use Rattle.std.proofs.Common.{ℕ, ◌<◌, ◌≤◌}
 use Rattle.nll_core.specs.Search.{IsIn, IsInRange, Within, AddsOfKind}
-use Rattle.nll_core.proofs.reachability.Inside.visit_range.Given as goal
+use Rattle.nll_core.proofs.frontiers.inside.Inside.visit_range.Given as goal
 
 abbrev pub invariant-loop-number : goal.invariant-loop-number
 invariant-loop-number g l =

@@ -3,7 +3,7 @@ use borrow.Author.Count.{below_more}
 use Rattle.std.proofs.lemmas.List.Elements.{Contains-get_or}
 use Rattle.nll_core.specs.Search.{IsIn, Within, AddsOfKind}
 use Rattle.nll_core.proofs.SearchLemmas.{adds_append, adds_weaker, covers_contained}
-use Rattle.nll_core.proofs.reachability.Inside.visit_points.Goals as goal
+use Rattle.nll_core.proofs.frontiers.inside.Inside.visit_points.Goals as goal
 
 pub loop-point-preserved : goal.loop-point-preserved
 loop-point-preserved g c =

@@ -1,14 +1,12 @@
-//! The elements of a graph that walks from a point reach inside a set.
+//! The steps of a graph that lead into a set.
 
-ghost use Rattle.std.specs.Prelude.{◌≡◌, ◌≤◌, ◌<◌, Contains, length, IfOk, OnOk};
+ghost use Rattle.std.specs.Prelude.{◌≡◌, ◌≤◌, ◌<◌, Contains, length, OnOk};
 ghost use Rattle.nll_problem.specs.Graph.{element_count};
 ghost use Rattle.nll_core.specs.Search.{HoldsFrom, IsInRange, IsStepInside, VisitsWithin};
-ghost use Rattle.nll_core.specs.Search.{AreReached};
 
-use crate::search::{Relation, Search, search_from};
+use crate::search::{Relation, Search};
 use nll_problem::Graph;
 use nll_sets::{Element, ElementSet, Memory};
-use std::alloc::Global;
 
 /// The steps of a graph that lead into a set.
 #[derive(Drop)]
@@ -92,23 +90,4 @@ impl<'a, S: ElementSet> Relation for Inside<'a, S> {
         }
         Ok(())
     }
-}
-
-/// The elements that walks from `at` inside a set reach, each once; none if `at` isn't in it.
-pub fn reached_from<S: ElementSet>(
-    alloc: Global,
-    graph: &Graph,
-    set: &S,
-    at: Element,
-) -> Result<Vec<Element>, Memory>
-    requires width { length (S.flags set.now) ≡ element_count graph.now }
-    requires at { at < element_count graph.now }
-    ensures { IfOk result (λ reached. AreReached graph.now (S.flags set.now) at reached.items) }
-{
-    if !set.has(at) {
-        return Ok(Vec::new(alloc));
-    }
-    let search = search_from::<Inside<S>, S>(alloc, &Inside { graph, set }, at)?;
-    let (_, reached) = search.into_parts();
-    Ok(reached)
 }

@@ -2,7 +2,7 @@ use Rattle.std.proofs.Common.{sym, ◌∙◌, subst}
 use Rattle.std.proofs.lemmas.Bool.{false≢true}
 use Rattle.nll_core.specs.Search.{IsIn}
 use Rattle.nll_core.proofs.SearchLemmas.{adds_none, adds_weaker}
-use Rattle.nll_core.proofs.reachability.Inside.visit.Goals as goal
+use Rattle.nll_core.proofs.frontiers.inside.Inside.visit.Goals as goal
 
 pub returns-in_ok-visit : goal.returns-in_ok-visit
 returns-in_ok-visit g c =
