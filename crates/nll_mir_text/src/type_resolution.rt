@@ -1,7 +1,7 @@
 //! Looking up the names in a written type, once each, piece by piece.
 
 ghost use Rattle.std.specs.Prelude.{◌≡◌, ◌<◌, ◌&&◌, ◌++◌, ℕ, List, true, false, length, map};
-ghost use Rattle.std.specs.Prelude.{[], ◌∷◌, reverse, IfOk, IfSome, MatchOption, OnOk};
+ghost use Rattle.std.specs.Prelude.{[], reverse, IfOk, IfSome, MatchOption, OnOk};
 ghost use Rattle.nll_types.specs.Shapes.{shape_of, shapes_of};
 ghost use Rattle.nll_types.specs.Table.{AreBelow, shape_in, shapes_in};
 ghost use Rattle.nll_types.specs.Grown.{AddsTypes};
@@ -170,18 +170,6 @@ fn put_named(
     Ok(true)
 }
 
-// Puts the mark of a piece that makes no type. Answers whether the name in it, if any, is known.
-fn put_mark(mark: Mark, known: bool, made: &mut Resolving) -> Result<bool, Memory>
-    ensures known { IfOk result (λ told. told ≡ known) }
-    ensures rows { OnOk result (reverse made.new.rows.items ≡ mark ∷ reverse made.old.rows.items) }
-    ensures shapes { made.new.shapes.items ≡ made.old.shapes.items }
-    ensures fits { made.new.fits ≡ made.old.fits }
-{
-    made.rows.reserve(1)?;
-    made.rows.push_reserved(mark);
-    Ok(known)
-}
-
 // Resolves a piece. Answers whether the name in it, if there is one, is known.
 fn resolve_piece(
     scope: &Scope<'_>,
@@ -195,29 +183,35 @@ fn resolve_piece(
     ensures made { IfOk result (λ known. Resolves (scope_of scope.now) (plain piece.now)
         types.old made.old types.new made.new known) }
 {
-    match piece {
+    let (mark, known) = match piece {
         TypePiece::Reference(mutable, region) => {
             let (number, known) = find(scope.regions, region);
-            put_mark(Mark::Behind(*mutable, RegionId(number as u32)), known, made)
+            (Mark::Behind(*mutable, RegionId(number as u32)), known)
         }
         TypePiece::Region(region) => {
             let (number, known) = find(scope.regions, region);
-            put_mark(Mark::Region(RegionId(number as u32)), known, made)
+            (Mark::Region(RegionId(number as u32)), known)
         }
-        TypePiece::Row => {
-            let row = Mark::Row(made.shapes.len(), types.regions.len());
-            put_mark(row, true, made)
-        }
-        TypePiece::Part => put_mark(Mark::Part, true, made),
-        TypePiece::Named(name) => put_named(scope, name, types, made),
+        TypePiece::Row => (Mark::Row(made.shapes.len(), types.regions.len()), true),
+        TypePiece::Part => (Mark::Part, true),
+        TypePiece::Named(name) => return put_named(scope, name, types, made),
         TypePiece::Int => {
             let target = types.table.int()?;
             put_shape(target, types, made)?;
-            Ok(true)
+            return Ok(true);
         }
-        TypePiece::Tuple => put_row(Head::Tuple, types, made).and(Ok(true)),
-        TypePiece::Function => put_function(types, made).and(Ok(true)),
-    }
+        TypePiece::Tuple => {
+            put_row(Head::Tuple, types, made)?;
+            return Ok(true);
+        }
+        TypePiece::Function => {
+            put_function(types, made)?;
+            return Ok(true);
+        }
+    };
+    made.rows.reserve(1)?;
+    made.rows.push_reserved(mark);
+    Ok(known)
 }
 
 // Resolves pieces, one after another, up to a name that isn't known. Answers the shape of the type
