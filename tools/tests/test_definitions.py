@@ -15,8 +15,6 @@ MUTUAL = re.compile(r"^( +)pub (?!record |data )(\S+) (?=[\s\S]*^\1\2 (?!=))", r
 # Words of `fixpoint` that `nll_owner` and `nll_run` say once more, of regions.
 OF_REGIONS = ("AreRanked AreSettled IsDone IsNoted IsSaturated IsTold IsWellSupported Passes SayLeast given_to list_in "
               "list_of part part_for received_from")
-# Others, each in two crates.
-OTHERS = ("AreSound ComesNext ComesTo Finishes IsClosed IsCounted IsNew IsOf IsTable known nothing sent_by")
 
 
 def printed(*words):
@@ -128,7 +126,7 @@ def clashes():
 
 class Names(unittest.TestCase):
     def test_a_name_stands_in_one_crate(self):
-        found, known = clashes(), f"{OF_REGIONS} {OTHERS}".split()
+        found, known = clashes(), OF_REGIONS.split()
         self.assertEqual({name: crates for name, crates in found.items() if name not in known}, {})
         self.assertEqual([name for name in known if name not in found], [])
 

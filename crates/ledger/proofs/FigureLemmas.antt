@@ -5,7 +5,7 @@ use lib.ListN.{get_elem?}
 use Rattle.ledger.specs.declared.figures.Figures.{Figures}
 use Rattle.ledger.specs.declared.step.LedgerStep.{LedgerStep}
 use Rattle.ledger.specs.Amounts.{total_bound}
-use Rattle.ledger.specs.Figures.{figures, noting, owing, clearing, quieting, setting, finding, fewer, fresh, together, total, IsSoundFigure, AreSound, AreBalanced}
+use Rattle.ledger.specs.Figures.{figures, noting, owing, clearing, quieting, setting, finding, fewer, fresh, together, total, IsSoundFigure, AreAllSound, AreBalanced}
 
 -- the total after a change of one view
 total_set : (f : Figures → ℕ) (views : List Figures) (id : ℕ) (v w : Figures) → get_elem? views id ≡ some v
@@ -14,20 +14,20 @@ total_set f [] id v w e = absurd (some-ne-none v (sym e))
 total_set f (x ∷ xs) zero v w e = let p : f x ≡ f v = ap f (some-injective x v e) in omega arith
 total_set f (x ∷ xs) (suc id) v w e = let r = total_set f xs id v w e in omega arith
 
-sound_at : (views : List Figures) (id : ℕ) (v : Figures) → AreSound views → get_elem? views id ≡ some v
+sound_at : (views : List Figures) (id : ℕ) (v : Figures) → AreAllSound views → get_elem? views id ≡ some v
     → IsSoundFigure v
 sound_at [] id v s e = absurd (some-ne-none v (sym e))
 sound_at (x ∷ xs) zero v s e = subst IsSoundFigure (some-injective x v e) s.0
 sound_at (x ∷ xs) (suc id) v s e = sound_at xs id v s.1 e
 
-sound_set : (views : List Figures) (id : ℕ) (w : Figures) → AreSound views → IsSoundFigure w
-    → AreSound (slice_set views id w)
+sound_set : (views : List Figures) (id : ℕ) (w : Figures) → AreAllSound views → IsSoundFigure w
+    → AreAllSound (slice_set views id w)
 sound_set [] id w s t = tt
 sound_set (x ∷ xs) zero w s t = (t, s.1)
 sound_set (x ∷ xs) (suc id) w s t = (s.0, sound_set xs id w s.1 t)
 
 -- the totals are within what all parts allow
-pub bounds : (views : List Figures) → AreSound views
+pub bounds : (views : List Figures) → AreAllSound views
     → (total (λ v. v.owed) views ≤ total (λ v. v.parts) views * total_bound)
     × (total (λ v. v.cleared) views ≤ total (λ v. v.parts) views * total_bound)
     × (total (λ v. v.quiets) views ≤ total (λ v. v.parts) views)
@@ -36,7 +36,7 @@ bounds (x ∷ xs) s = let r = bounds xs s.1 in let a = s.0.owed in let b = s.0.c
     (omega arith, omega arith, omega arith)
 
 -- where one view is not quiet, not all are
-not_quiet : (views : List Figures) (id : ℕ) (v : Figures) → AreSound views → get_elem? views id ≡ some v
+not_quiet : (views : List Figures) (id : ℕ) (v : Figures) → AreAllSound views → get_elem? views id ≡ some v
     → v.quiets < v.parts → total (λ v. v.quiets) views < total (λ v. v.parts) views
 not_quiet [] id v s e lt = absurd (some-ne-none v (sym e))
 not_quiet (x ∷ xs) zero v s e lt = let p : x ≡ v = some-injective x v e in
@@ -57,7 +57,7 @@ set_own (x ∷ xs) (suc id) v e = ap (λ l. x ∷ l) (set_own xs id v e)
 
 -- the seat that stands for all shares, all of them quiet, knows that owed and cleared are equal
 alone : (f : Figures → ℕ) → ((v : Figures) → IsSoundFigure v → v.parts ≡ 0 → f v ≡ 0)
-    → (views : List Figures) (id : ℕ) (v : Figures) → AreSound views → get_elem? views id ≡ some v
+    → (views : List Figures) (id : ℕ) (v : Figures) → AreAllSound views → get_elem? views id ≡ some v
     → total (λ u. u.parts) views ≡ v.parts → total f views ≡ f v
 alone f idle [] id v s at e = absurd (some-ne-none v (sym at))
 alone f idle (x ∷ xs) zero v s at e =
@@ -66,7 +66,7 @@ alone f idle (x ∷ xs) zero v s at e =
     let z = none f idle xs s.1 (omega arith) in omega arith
   where
     none : (f : Figures → ℕ) → ((v : Figures) → IsSoundFigure v → v.parts ≡ 0 → f v ≡ 0) → (views : List Figures)
-        → AreSound views → total (λ u. u.parts) views ≡ 0 → total f views ≡ 0
+        → AreAllSound views → total (λ u. u.parts) views ≡ 0 → total f views ≡ 0
     none f idle [] s e = refl
     none f idle (y ∷ ys) s e = let a = idle y s.0 (omega arith) in let b = none f idle ys s.1 (omega arith) in
         omega arith
@@ -85,7 +85,7 @@ total_snoc : (f : Figures → ℕ) (views : List Figures) (w : Figures) → tota
 total_snoc f [] w = omega arith
 total_snoc f (x ∷ xs) w = let r = total_snoc f xs w in omega arith
 
-sound_snoc : (views : List Figures) (w : Figures) → AreSound views → IsSoundFigure w → AreSound (views ++ w ∷ [])
+sound_snoc : (views : List Figures) (w : Figures) → AreAllSound views → IsSoundFigure w → AreAllSound (views ++ w ∷ [])
 sound_snoc [] w s t = (t, tt)
 sound_snoc (x ∷ xs) w s t = (s.0, sound_snoc xs w s.1 t)
 

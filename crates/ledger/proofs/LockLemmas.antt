@@ -10,7 +10,7 @@ use Rattle.ledger.specs.declared.step.LedgerStep.{LedgerStep}
 use Rattle.ledger.specs.declared.step.LedgerStep.TheVariants.{Owed, FlagSeen, BalanceSeen}
 use Rattle.ledger.specs.Amounts.{total_bound}
 use Rattle.ledger.specs.Figures.{noting, owing, clearing, quieting, staying, setting, finding, finding_none, fewer, fresh, none, together, bit, AreBalanced}
-use Rattle.ledger.specs.Lock.{first, new_state, spent, known, holding, released, holders, HoldIt, IsHeldByOne}
+use Rattle.ledger.specs.Lock.{first, new_state, spent, knowing, holding, released, holders, HoldIt, IsHeldByOne}
 use Rattle.ledger.proofs.FigureLemmas.{bounds, finds_le, figures_owe, figures_clear, figures_quiet, figures_stop, figures_find, figures_kept, figures_noted, figures_fork, figures_merge, settled, called}
 
 entry_at : (views : List Known) (id : ℕ) (v : Known) → get_elem? views id ≡ some v
@@ -184,9 +184,9 @@ begins = record {
 -- a share is cut off
 pub cuts : (port : ℕ) (v : Known) → v.holds ≡ false → 1 < v.figures.parts → 0 < v.figures.owed → v.figures.owed ≤ 64
     → v.figures.cleared ≡ 0 → v.figures.quiets ≡ 0 → v.figures.calls ≡ 0 → v.figures.finds ≡ 0
-    → Forks IsHeldByOne port v (known (fewer v.figures) v.holds v.held) (known fresh false v.held)
+    → Forks IsHeldByOne port v (knowing (fewer v.figures) v.holds v.held) (knowing fresh false v.held)
 cuts port v free part owes few cleared quiets calls finds items views h at =
-    let w = known (fewer v.figures) v.holds v.held in let u = known fresh false v.held in
+    let w = knowing (fewer v.figures) v.holds v.held in let u = knowing fresh false v.held in
     let es = map (λ y. y.figures) views in
     let hs = holders_set views port v w at in let ho = holders_snoc (slice_set views port w) u in record {
       state = h.state;
@@ -202,9 +202,9 @@ cuts port v free part owes few cleared quiets calls finds items views h at =
 
 -- two are put together
 pub joins : (port : ℕ) (v : Known) (other : ℕ) (w : Known) → v.holds ≡ false → w.holds ≡ false
-    → Merges IsHeldByOne port v other w (known (together v.figures w.figures) false v.held) (spent)
+    → Merges IsHeldByOne port v other w (knowing (together v.figures w.figures) false v.held) (spent)
 joins port v other w free free' items views h at apart there =
-    let t = known (together v.figures w.figures) false v.held in let z = spent in
+    let t = knowing (together v.figures w.figures) false v.held in let z = spent in
     let vs = slice_set views port t in let es = map (λ y. y.figures) views in
     let h1 = holders_set views port v t at in let h2 = holders_set vs other w z there in
     let f1 : bit v.holds ≡ 0 = ap (λ b. bit b) free in let f2 : bit w.holds ≡ 0 = ap (λ b. bit b) free' in record {

@@ -94,16 +94,16 @@ pub record IsSoundFigure (v : Figures) : Type 0 where
   pub finds : v.finds ≤ v.parts
 
 -- all of a list are
-abbrev pub AreSound : List Figures → Type 0
-AreSound [] = ⊤
-AreSound (v ∷ vs) = IsSoundFigure v × AreSound vs
+abbrev pub AreAllSound : List Figures → Type 0
+AreAllSound [] = ⊤
+AreAllSound (v ∷ vs) = IsSoundFigure v × AreAllSound vs
 
 -- the balance, kept 2^62 higher, is what all owed less what they cleared, and is 0 where all parts
 -- left on quiet; the flag is set just where a share set it, and where a share knows that it is set
 pub record AreBalanced (balance : ℕ) (flag : Bool) (all : List Figures) : Type 0 where
   pub sums : balance + total (λ v. v.cleared) all ≡ 2 ^ 62 + total (λ v. v.owed) all
   pub parts : total (λ v. v.parts) all ≡ most_parts
-  pub sound : AreSound all
+  pub sound : AreAllSound all
   pub quiet : total (λ v. v.quiets) all ≡ total (λ v. v.parts) all → balance ≡ 2 ^ 62
   pub set_by : flag ≡ true → 0 < total (λ v. v.calls) all
   pub sets : 0 < total (λ v. v.calls) all → flag ≡ true

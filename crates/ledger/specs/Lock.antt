@@ -19,24 +19,24 @@ new_state = state_of 4611686018427387904 false
 
 -- what a pass knows: the figures of its shares, whether it holds the lock, and the state that it
 -- found when it last took the lock
-abbrev pub known : Figures → Bool → State → Known
-known of_shares is_holder found = record { figures = of_shares; holds = is_holder; held = found }
+abbrev pub knowing : Figures → Bool → State → Known
+knowing of_shares is_holder found = record { figures = of_shares; holds = is_holder; held = found }
 
 -- the first pass of a lock has all parts, and holds the lock
 abbrev pub first : Known
-first = known (figures 64 0 0 0 0 0 []) true new_state
+first = knowing (figures 64 0 0 0 0 0 []) true new_state
 
 -- a pass whose shares went over to another one
 abbrev pub spent : Known
-spent = known none false (state_of 0 false)
+spent = knowing none false (state_of 0 false)
 
 -- a pass that took the lock and found this state
 abbrev pub holding : Known → State → Known
-holding v found = known v.figures true found
+holding v found = knowing v.figures true found
 
 -- a pass that gave the lock back, with these figures then
 abbrev pub released : Known → Figures → Known
-released v after = known after false v.held
+released v after = knowing after false v.held
 
 -- how many of the passes hold the lock
 abbrev pub holders : List Known → ℕ

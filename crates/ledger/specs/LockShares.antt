@@ -55,8 +55,8 @@ module _ {R : Type 0} where
   owners_of book = book.owners
 
   -- the share is of the book
-  abbrev pub IsOf : LockBook R → LockShare → Type 0
-  IsOf book share = IsPassOf book.lock share.pass
+  abbrev pub IsShareOf : LockBook R → LockShare → Type 0
+  IsShareOf book share = IsPassOf book.lock share.pass
       × ((view share.pass).figures.parts ≡ parts_of_share book.owners share.account.number)
 
   -- what is left of a share is of the book
@@ -66,6 +66,6 @@ module _ {R : Type 0} where
 
   -- the share of this number of the book, which has done nothing yet
   abbrev pub IsNew : LockBook R → ℕ → LockShare → Type 0
-  IsNew book number share = IsOf book share × (share.account.number ≡ number)
+  IsNew book number share = IsShareOf book share × (share.account.number ≡ number)
       × (share.account.owed ≡ 1) × (share.account.cleared ≡ 0)
       × (share.account.called ≡ false) × (share.marked ≡ false) × (steps_of share ≡ [])

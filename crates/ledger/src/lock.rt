@@ -1,17 +1,17 @@
 //! Holds of a ledger's lock: what a share does, one hold each.
 
 ghost use Rattle.std.specs.Prelude.{◌≡◌, ◌+◌, ◌^◌, ◌<◌, ◌≤◌, [], false, true, cond};
-ghost use Rattle.crossbeam_queue.specs.Fifo.{Learns, Pushes};
+ghost use Rattle.crossbeam_queue.specs.Fifo.{Pushes};
 ghost use Rattle.crossbeam_queue.specs.Passes.{IsPassOf, ruled_capacity, view};
 ghost use Rattle.ledger.specs.Amounts.{total_bound};
 ghost use Rattle.ledger.specs.Figures.{clearing, figures, finding, finding_none, owing, setting};
-ghost use Rattle.ledger.specs.Lock.{IsHeldByOne, IsSeen, first, holding};
+ghost use Rattle.ledger.specs.Lock.{IsHeldByOne, IsSeen, first, holding, released};
 
 use crate::figures::NOTHING_OWED;
 use crate::lock_rule::{
-    Begins, Finds, Grabs, Known, Lock, LockPass, Lowers, Misses, Quiets, Raises, Sets, State, Stays,
+    Begins, Deed, Finds, Grabs, Lock, LockPass, Lowers, Misses, Quiets, Raises, Releases, Sets,
+    State, Stays,
 };
-use crossbeam_queue::protocol::{Lesson, Outcome};
 use crossbeam_utils::Backoff;
 use std::sync::Wait;
 
@@ -36,7 +36,7 @@ fn grab<R: Wait>(rt: &R, lock: &Lock, pass: &mut LockPass) -> State
 {
     let backoff = Backoff::new();
     for _ in rt.forever() {
-        if let Some(state) = lock.pop_as::<Grabs, R>(rt, pass) {
+        if let Some(state) = lock.try_pop_as::<Grabs>(pass) {
             return state;
         }
         backoff.snooze();
@@ -44,23 +44,18 @@ fn grab<R: Wait>(rt: &R, lock: &Lock, pass: &mut LockPass) -> State
     unreachable!()
 }
 
-// Gives the lock back, with this state.
-fn give<M: Outcome<State, Known> + Lesson<State, Known>, R: Wait>(
-    rt: &R,
-    lock: &Lock,
-    pass: &mut LockPass,
-    state: State,
-)
+// Gives the lock back, with this state, after what the share did.
+fn give<D: Deed, R: Wait>(rt: &R, lock: &Lock, pass: &mut LockPass, state: State)
     requires pass { IsPassOf lock.now pass.old }
-    requires rule { Pushes IsHeldByOne (ruled_capacity lock.now) pass.old.id (view pass.old) state
-        (M.then (view pass.old) state)
-        × Learns IsHeldByOne pass.old.id (view pass.old) (M.fact (view pass.old)) }
+    requires rule { let v = view pass.old in Pushes IsHeldByOne (ruled_capacity lock.now)
+        pass.old.id v state (λ w. w ≡ released v (D.done v.figures v.held state)) }
     ensures pass { IsPassOf lock.now pass.new }
-    ensures then { M.then (view pass.old) state (view pass.new) }
+    ensures then { let v = view pass.old in
+        view pass.new ≡ released v (D.done v.figures v.held state) }
 {
     let mut next = state;
     for _ in rt.forever() {
-        match lock.push_as::<M, R>(rt, pass, next) {
+        match lock.try_push_as::<Releases<D>>(pass, next) {
             Ok(()) => return,
             Err(back) => next = back,
         }

@@ -93,7 +93,7 @@ fn deal<R>(book: &LockBook<R>, pass: LockPass, shares: &mut Vec<LockShare>)
 impl<R: Wait + Copy + Send + Sync> Ledger for LockLedger<R> {
     ghost use Rattle.std.specs.Prelude.{◌≡◌, ℕ, Some, false, slice_get, true, vec_len};
     ghost use Rattle.std.specs.List.{sum_by};
-    ghost use Rattle.ledger.specs.LockShares.{IsLeftOf, IsOf, cleared_by, has_called, is_quiet};
+    ghost use Rattle.ledger.specs.LockShares.{IsLeftOf, IsShareOf, cleared_by, has_called, is_quiet};
     ghost use Rattle.ledger.specs.LockShares.{number_left, owed_by, owners_of};
     ghost use Rattle.ledger.specs.LockShares.{steps_left, steps_of};
     ghost use Rattle.ledger.specs.declared.lock_book.LockLeft.{LockLeft};
@@ -106,7 +106,7 @@ impl<R: Wait + Copy + Send + Sync> Ledger for LockLedger<R> {
 
     ghost owner_count = { owners_of };
 
-    ghost belongs = { IsOf };
+    ghost belongs = { IsShareOf };
 
     ghost number = { λ share. share.account.number };
 

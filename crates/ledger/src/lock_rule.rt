@@ -5,11 +5,13 @@
 //! queue knows the figures of its shares; the state is at all times what the figures of all passes
 //! say (`specs/Lock.antt`).
 
-ghost use Rattle.std.specs.Prelude.{⊤};
+ghost use Rattle.ledger.specs.declared.figures.Figures.{Figures};
+ghost use Rattle.ledger.specs.declared.lock_rule.State.{State};
 
 use crate::figures::Figures;
 use crossbeam_queue::protocol::{Join, Lesson, Outcome, Protocol, Split};
 use crossbeam_queue::{Pass, RuledArrayQueue};
+use std::marker::PhantomData;
 
 /// The state of a book: its balance, kept 2^62 higher, and whether the stop flag is set.
 #[derive(Clone, Copy)]
@@ -56,149 +58,97 @@ impl Outcome<State, Known> for Grabs {
         × (0 < old.figures.finds → found.flag ≡ true) };
 }
 
-impl Lesson<State, Known> for Grabs {
-    ghost use Rattle.std.specs.Prelude.{⊤};
-
-    ghost fact = { λ old items. ⊤ };
+/// What a share does in a hold: its figures afterwards, given those before, the state that it found
+/// and the state that it puts.
+pub trait Deed {
+    ghost done: { Figures → State → State → Figures };
 }
 
-/// The first push of all: what is owed is as much as the balance, and no share has made a step.
+/// A push: a hold ends in which a share did this.
+pub struct Releases<D> {
+    of: PhantomData<D>,
+}
+
+impl<D: Deed> Outcome<State, Known> for Releases<D> {
+    ghost use Rattle.std.specs.Prelude.{◌≡◌};
+    ghost use Rattle.ledger.specs.Lock.{released};
+
+    ghost then = { λ old put new. new ≡ released old (D.done old.figures old.held put) };
+}
+
+/// The first of all: what is owed is as much as the balance, and no share has made a step.
 pub struct Begins;
 
-impl Outcome<State, Known> for Begins {
-    ghost use Rattle.std.specs.Prelude.{◌≡◌, ◌-◌, []};
+impl Deed for Begins {
+    ghost use Rattle.std.specs.Prelude.{◌-◌, []};
     ghost use Rattle.ledger.specs.Figures.{noting, owing};
-    ghost use Rattle.ledger.specs.Lock.{released};
 
-    ghost then = { λ old put new. new
-        ≡ released old (noting (owing old.figures (put.balance - old.held.balance)) []) };
+    ghost done = { λ old held put. noting (owing old (put.balance - held.balance)) [] };
 }
 
-impl Lesson<State, Known> for Begins {
-    ghost use Rattle.std.specs.Prelude.{⊤};
-
-    ghost fact = { λ old items. ⊤ };
-}
-
-/// A push: a hold ends. What the share owes grew by as much as the balance.
+/// What the share owes grew by as much as the balance.
 pub struct Raises;
 
-impl Outcome<State, Known> for Raises {
-    ghost use Rattle.std.specs.Prelude.{◌≡◌, ◌-◌};
+impl Deed for Raises {
+    ghost use Rattle.std.specs.Prelude.{◌-◌};
     ghost use Rattle.ledger.specs.Figures.{owing};
-    ghost use Rattle.ledger.specs.Lock.{released};
 
-    ghost then = { λ old put new.
-        new ≡ released old (owing old.figures (put.balance - old.held.balance)) };
+    ghost done = { λ old held put. owing old (put.balance - held.balance) };
 }
 
-impl Lesson<State, Known> for Raises {
-    ghost use Rattle.std.specs.Prelude.{⊤};
-
-    ghost fact = { λ old items. ⊤ };
-}
-
-/// A push: a hold ends. What the share cleared grew by as much as the balance fell.
+/// What the share cleared grew by as much as the balance fell.
 pub struct Lowers;
 
-impl Outcome<State, Known> for Lowers {
-    ghost use Rattle.std.specs.Prelude.{◌≡◌, ◌-◌};
+impl Deed for Lowers {
+    ghost use Rattle.std.specs.Prelude.{◌-◌};
     ghost use Rattle.ledger.specs.Figures.{clearing};
-    ghost use Rattle.ledger.specs.Lock.{released};
 
-    ghost then = { λ old put new.
-        new ≡ released old (clearing old.figures (old.held.balance - put.balance)) };
+    ghost done = { λ old held put. clearing old (held.balance - put.balance) };
 }
 
-impl Lesson<State, Known> for Lowers {
-    ghost use Rattle.std.specs.Prelude.{⊤};
-
-    ghost fact = { λ old items. ⊤ };
-}
-
-/// A push: a hold ends. The share set the flag.
+/// The share set the flag.
 pub struct Sets;
 
-impl Outcome<State, Known> for Sets {
-    ghost use Rattle.std.specs.Prelude.{◌≡◌};
+impl Deed for Sets {
     ghost use Rattle.ledger.specs.Figures.{setting};
-    ghost use Rattle.ledger.specs.Lock.{released};
 
-    ghost then = { λ old put new. new ≡ released old (setting old.figures) };
+    ghost done = { λ old held put. setting old };
 }
 
-impl Lesson<State, Known> for Sets {
-    ghost use Rattle.std.specs.Prelude.{⊤};
-
-    ghost fact = { λ old items. ⊤ };
-}
-
-/// A push: a hold ends. The share found the flag set.
+/// The share found the flag set.
 pub struct Finds;
 
-impl Outcome<State, Known> for Finds {
-    ghost use Rattle.std.specs.Prelude.{◌≡◌};
+impl Deed for Finds {
     ghost use Rattle.ledger.specs.Figures.{finding};
-    ghost use Rattle.ledger.specs.Lock.{released};
 
-    ghost then = { λ old put new. new ≡ released old (finding old.figures) };
+    ghost done = { λ old held put. finding old };
 }
 
-impl Lesson<State, Known> for Finds {
-    ghost use Rattle.std.specs.Prelude.{⊤};
-
-    ghost fact = { λ old items. ⊤ };
-}
-
-/// A push: a hold ends. The share found that the flag isn't set.
+/// The share found that the flag isn't set.
 pub struct Misses;
 
-impl Outcome<State, Known> for Misses {
-    ghost use Rattle.std.specs.Prelude.{◌≡◌};
+impl Deed for Misses {
     ghost use Rattle.ledger.specs.Figures.{finding_none};
-    ghost use Rattle.ledger.specs.Lock.{released};
 
-    ghost then = { λ old put new. new ≡ released old (finding_none old.figures) };
+    ghost done = { λ old held put. finding_none old };
 }
 
-impl Lesson<State, Known> for Misses {
-    ghost use Rattle.std.specs.Prelude.{⊤};
-
-    ghost fact = { λ old items. ⊤ };
-}
-
-/// A push: a hold ends. The share found that the flag isn't set, and left on quiet.
+/// The share found that the flag isn't set, and left on quiet.
 pub struct Quiets;
 
-impl Outcome<State, Known> for Quiets {
-    ghost use Rattle.std.specs.Prelude.{◌≡◌};
+impl Deed for Quiets {
     ghost use Rattle.ledger.specs.Figures.{finding_none, quieting};
-    ghost use Rattle.ledger.specs.Lock.{released};
 
-    ghost then = { λ old put new. new ≡ released old (quieting (finding_none old.figures)) };
+    ghost done = { λ old held put. quieting (finding_none old) };
 }
 
-impl Lesson<State, Known> for Quiets {
-    ghost use Rattle.std.specs.Prelude.{⊤};
-
-    ghost fact = { λ old items. ⊤ };
-}
-
-/// A push: a hold ends. The share found that the flag isn't set, nor the balance 0.
+/// The share found that the flag isn't set, nor the balance 0.
 pub struct Stays;
 
-impl Outcome<State, Known> for Stays {
-    ghost use Rattle.std.specs.Prelude.{◌≡◌};
+impl Deed for Stays {
     ghost use Rattle.ledger.specs.Figures.{finding_none, staying};
-    ghost use Rattle.ledger.specs.Lock.{released};
 
-    ghost then = { λ old put new. new ≡ released old (staying (finding_none old.figures)) };
-}
-
-impl Lesson<State, Known> for Stays {
-    ghost use Rattle.std.specs.Prelude.{⊤};
-
-    ghost fact = { λ old items. ⊤ };
+    ghost done = { λ old held put. staying (finding_none old) };
 }
 
 /// A share is cut off, and shares are put together.
@@ -207,19 +157,19 @@ pub struct Parts;
 impl Split<Known> for Parts {
     ghost use Rattle.std.specs.Prelude.{false};
     ghost use Rattle.ledger.specs.Figures.{fewer, fresh};
-    ghost use Rattle.ledger.specs.Lock.{known};
+    ghost use Rattle.ledger.specs.Lock.{knowing};
 
-    ghost left = { λ old. known (fewer old.figures) old.holds old.held };
+    ghost left = { λ old. knowing (fewer old.figures) old.holds old.held };
 
-    ghost right = { λ old. known fresh false old.held };
+    ghost right = { λ old. knowing fresh false old.held };
 }
 
 impl Join<Known> for Parts {
     ghost use Rattle.std.specs.Prelude.{false};
     ghost use Rattle.ledger.specs.Figures.{together};
-    ghost use Rattle.ledger.specs.Lock.{known, spent};
+    ghost use Rattle.ledger.specs.Lock.{knowing, spent};
 
-    ghost both = { λ one other. known (together one.figures other.figures) false one.held };
+    ghost both = { λ one other. knowing (together one.figures other.figures) false one.held };
 
     ghost spent = { spent };
 }

@@ -2,7 +2,6 @@ pub mod Statements
 pub mod Effects
 pub mod Written
 pub mod Exits
-pub mod CodeStatements
 pub mod Judging
 pub mod Found
 pub mod TypePairs

@@ -18,8 +18,7 @@ use nll_sets::Memory;
 use nll_types::{Operand, Place, Projection, Typed};
 use std::alloc::AllocError;
 
-// The number of the next item of a list that has this many. Numbers end at 2^31, far beyond what
-// memory holds.
+// The number of the next part. Numbers end at 2^31, far beyond what memory holds.
 fn next_number(count: usize) -> Result<u32, Memory>
     ensures number { IfOk result (λ n. n ≡ count) }
     ensures few { IfOk result (λ n. n < 2 ^ 31) }
@@ -56,7 +55,10 @@ impl Statements {
     {
         let number = next_number(self.parts.len())?;
         let taken = place.projections();
-        let projections = Slice::of(self.projections.len(), taken.len())?;
+        let projections = Slice {
+            first: self.projections.len(),
+            count: taken.len(),
+        };
         append(&mut self.projections, taken)?;
         let variable = place.variable();
         self.parts.push(PartPlace {
@@ -99,7 +101,10 @@ impl Statements {
         ensures grows { ListsGrow self.old self.new }
         ensures operands { IfOk result (AreFlatOperands self.new (map operand_of operands.now)) }
     {
-        let slice = Slice::of(self.operands.len(), operands.len())?;
+        let slice = Slice {
+            first: self.operands.len(),
+            count: operands.len(),
+        };
         for operand in operands {
             let operand = self.add_operand(operand)?;
             self.operands.push(operand)?;
@@ -144,7 +149,10 @@ impl Statements {
         ensures grows { ListsGrow self.old self.new }
         ensures blocks { IfOk result (IsListedSlice self.new.blocks blocks.now) }
     {
-        let slice = Slice::of(self.blocks.len(), blocks.len())?;
+        let slice = Slice {
+            first: self.blocks.len(),
+            count: blocks.len(),
+        };
         self.blocks.extend_from_slice(blocks)?;
         Ok(slice)
     }
@@ -162,7 +170,7 @@ impl Statements {
     {
         let place = self.add_place(place)?;
         let operands = self.add_operands(operands)?;
-        let number = next_number(self.makes.len())?;
+        let number = self.makes.len();
         self.makes.push(FlatMake {
             place,
             ty,
@@ -177,7 +185,7 @@ impl Statements {
         ensures grows { ListsGrow self.old self.new }
         ensures flat { IfOk result (IsFlatStatement self.new (call_in self.old call)) }
     {
-        let number = next_number(self.calls.len())?;
+        let number = self.calls.len();
         self.calls.push(call)?;
         Ok(Stmt::Call(number))
     }
@@ -190,7 +198,7 @@ impl Statements {
     {
         let blocks = self.add_blocks(blocks)?;
         let operand = self.add_operand(operand)?;
-        let number = next_number(self.switches.len())?;
+        let number = self.switches.len();
         self.switches.push(FlatSwitch { operand, blocks })?;
         Ok(Stmt::Switch(number))
     }

@@ -1,38 +1,14 @@
 //! Statements and terminators as a few numbers, and what their numbers stand for in lists.
 
-ghost use Rattle.std.specs.Prelude.{◌≡◌, ◌≤◌, ◌^◌, ◌⊎◌, IfErr, IfOk};
-
 use nll_problem::RegionId;
-use nll_sets::Memory;
 use nll_types::Typed;
-use std::alloc::AllocError;
 use std::mem::size_of;
 
 /// A part of a list: where it begins, and how many items it has.
 #[derive(Clone, Copy)]
 pub struct Slice {
-    pub first: u32,
-    pub count: u32,
-}
-
-impl Slice {
-    /// A part of a list.
-    ///
-    /// # Errors
-    /// `Memory`: a number is 2^32 or more, far beyond what memory holds.
-    pub fn of(first: usize, count: usize) -> Result<Slice, Memory>
-        ensures first { IfOk result (λ s. s.first ≡ first) }
-        ensures count { IfOk result (λ s. s.count ≡ count) }
-        ensures many { IfErr result (λ _. (2 ^ 32 ≤ first) ⊎ (2 ^ 32 ≤ count)) }
-    {
-        if first > u32::MAX as usize || count > u32::MAX as usize {
-            return Err(Memory::from(AllocError));
-        }
-        Ok(Slice {
-            first: first as u32,
-            count: count as u32,
-        })
-    }
+    pub first: usize,
+    pub count: usize,
 }
 
 /// What projections take of a variable: a place that isn't the whole of one.
@@ -92,7 +68,7 @@ pub enum Stmt {
     /// `PLACE = &'r PLACE`, or `&'r mut PLACE` where the first is true.
     Borrow(bool, u32, RegionId, u32),
     /// `PLACE = make TYPE (OP, ..)`
-    Make(u32),
+    Make(usize),
     /// `read PLACE`
     Read(u32),
     /// `live VAR`: the variable's storage begins.
@@ -104,13 +80,13 @@ pub enum Stmt {
     /// `goto BB`
     Goto(u32),
     /// `switch OP BB ..`
-    Switch(u32),
+    Switch(usize),
     /// `drop VAR -> BB`
     Drop(u32, u32),
     /// `drop VAR -> BB unwind BB`
     DropUnwind(u32, u32, u32),
     /// `PLACE = call WORD (OP: TYPE, ..): TYPE where 'a: 'b, .. -> BB`, possibly with `unwind BB`.
-    Call(u32),
+    Call(usize),
     /// `return`
     Return,
     /// `stop`

@@ -19,7 +19,6 @@ mod meetings;
 mod operands;
 mod parts;
 mod places;
-mod statement;
 mod statement_judgement;
 mod statements;
 mod typed;
@@ -30,7 +29,6 @@ pub use flat::{FlatCall, FlatMake, FlatOperand, FlatSwitch, PartPlace, Slice, St
 pub use judgement::Judgement;
 pub use parts::BodyParts;
 pub use places::Places;
-pub use statement::{Call, Make, Statement};
 pub use statement_judgement::judge_statement;
 pub use statements::Statements;
 pub use typed::{StatementAt, TypedBody};

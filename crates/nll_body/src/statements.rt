@@ -16,8 +16,8 @@ use std::marker::Model;
 /// place of a whole variable takes nothing.
 ///
 /// # Errors
-/// A call that adds something answers `Memory` where memory runs out, or numbers: those of items
-/// have 31 bits, those of slices 32. The lists may have grown then, and what was in them stands.
+/// A call that adds something answers `Memory` where memory runs out, or where there are 2^31
+/// places that aren't whole variables. The lists may have grown then, and what was in them stands.
 ///
 /// # Cost
 /// Of a call that adds: linear in what it adds, over many calls; of one that looks up: constant
@@ -93,8 +93,8 @@ pub(crate) const FIRST_PART: u32 = 1 << 31;
 fn slice_of<T>(list: &[T], slice: Slice) -> &[T]
     ensures { result.now ≡ sliced list.now slice }
 {
-    let from = (slice.first as usize).min(list.len());
-    let end = from + (slice.count as usize).min(list.len() - from);
+    let from = slice.first.min(list.len());
+    let end = from + slice.count.min(list.len() - from);
     &list[from..end]
 }
 
@@ -164,27 +164,27 @@ impl Statements {
     }
 
     /// The making of a tuple or struct that has this number.
-    pub fn make(&self, number: u32) -> Option<&FlatMake>
+    pub fn make(&self, number: usize) -> Option<&FlatMake>
         ensures { MatchOption result (slice_get self.now.makes number ≡ None)
             (λ m. slice_get self.now.makes number ≡ Some m.now) }
     {
-        self.makes.get(number as usize)
+        self.makes.get(number)
     }
 
     /// The call of this number.
-    pub fn call(&self, number: u32) -> Option<&FlatCall>
+    pub fn call(&self, number: usize) -> Option<&FlatCall>
         ensures { MatchOption result (slice_get self.now.calls number ≡ None)
             (λ c. slice_get self.now.calls number ≡ Some c.now) }
     {
-        self.calls.get(number as usize)
+        self.calls.get(number)
     }
 
     /// The switch of this number.
-    pub fn switch(&self, number: u32) -> Option<&FlatSwitch>
+    pub fn switch(&self, number: usize) -> Option<&FlatSwitch>
         ensures { MatchOption result (slice_get self.now.switches number ≡ None)
             (λ s. slice_get self.now.switches number ≡ Some s.now) }
     {
-        self.switches.get(number as usize)
+        self.switches.get(number)
     }
 
     /// A slice of the operands of which tuples and structs are made.

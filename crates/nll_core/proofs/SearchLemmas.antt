@@ -1,14 +1,13 @@
 -- What a search adds, step after step, and what it has reached when nothing is left to expand.
 use Rattle.std.proofs.Common.{◌≡◌, ℕ, ◌+◌, ◌<◌, ◌≤◌, Bool, true, false, not, cond, List, [], ◌∷◌, ◌++◌, ◌↔◌, replicate, Contains, length, get_or, set, refl, sym, ap, ◌∙◌, subst, inl, inr, ⊎_elim, arith, length-append}
-use Rattle.std.specs.Prelude.{⊤, AllPairs, ◌≢◌}
+use Rattle.std.specs.Prelude.{⊤}
 use Rattle.std.proofs.lemmas.Bool.{cases_lt, cases_eq, false≢true, false_from_ne_true}
 use Rattle.std.proofs.lemmas.List.{get_or-set_other, get_or-set_same, set-get_or, length-set, get_or_append_left, get_or_at, get_or_past, get_or_default, get_or-replicate, length-replicate}
 use Rattle.std.proofs.lemmas.List.Sums.{sum_by-set}
 use Rattle.nll_sets.specs.ElementSet.{flag}
 use Rattle.nll_problem.specs.Graph.{Graph, element_count, IsNext, IsReturn, IsStep, IsSound}
-use Rattle.nll_problem.specs.Walks.{IsWalk, Reaches}
 use Rattle.nll_core.specs.Search.{Search, LeadsTo, IsIn, Within, IsStepInside, missing, AddsOfKind, Visits, IsPending, Spreads, IsFound, IsCovered, IsLedTo}
-use Rattle.nll_problem.proofs.WalkLemmas.{walk_first, walk_more, walk_carries, walk_other}
+use Rattle.nll_problem.proofs.WalkLemmas.{walk_more, walk_carries}
 
 -- ---- flags and lists
 
@@ -36,10 +35,6 @@ covers_contained holds xs each x h = subst holds (contains_at xs x h) (each h.0 
 -- what stands at a place of a list is contained
 pub contains_from : (xs : List ℕ) (x k : ℕ) → k < length xs → get_or xs k 0 ≡ x → Contains xs x
 contains_from xs x k within is = (k, within, get_or_default xs k x 0 within ∙ is)
-
--- an empty list has nothing
-pub contains_none : {X : Type 0} (x : X) → Contains [] x → ⊥
-contains_none x h = omega (arith, h.1)
 
 abbrev one_if_not : Bool → ℕ
 one_if_not b = cond (not b) 1 0
@@ -114,17 +109,6 @@ module _ (step : ℕ → ℕ → Type 0) where
   pub leads_carries : (holds : ℕ → Type 0) → ((x y : ℕ) → holds x → step x y → holds y) → (x y : ℕ) → holds x
       → LeadsTo step x y → holds y
   leads_carries holds along x y here h = walk_carries step (λ _. ⊤) holds (λ a b k s _. along a b k s) x h.0 y here h.1
-
--- from an element of the set, walks inside it and walks by the steps that lead into it reach the same
-pub leads_inside : (g : Graph) (set : List Bool) (x y : ℕ) → IsIn set x
-    → LeadsTo (IsStepInside g set) x y ↔ Reaches g (IsIn set) x y
-leads_inside g set x y here = grind (arith, walk_other, walk_into)
-  where
-    walk_into : (x : ℕ) (way : List ℕ) (y : ℕ) → IsWalk (IsStep g) (IsIn set) x way y
-        → IsWalk (IsStepInside g set) (λ _. ⊤) x way y
-    walk_into x [] y h = (tt, h.1)
-    walk_into x (next ∷ way) y h =
-        (tt, (h.1, walk_first (IsStep g) (IsIn set) next way y h.2), walk_into next way y h.2)
 
 -- ---- what expanding one element of a graph adds
 
@@ -227,8 +211,8 @@ module _ (step : ℕ → ℕ → Type 0) (at width : ℕ) (first : Search)
     is_start x h = grind (arith, none_in_empty)
 
     -- the set is what walks reach
-    set_exact : (x : ℕ) → IsIn new.reached x ↔ LeadsTo step at x
-    set_exact x = (
+    pub found : IsFound step at new
+    found x = (
       λ h. ⊎_elim
           (λ early. subst (LeadsTo step at) (sym (is_start x early)) (leads_first step at))
           (λ w. let led = s.adds.cause w.0 w.1 w.2 in
@@ -237,31 +221,3 @@ module _ (step : ℕ → ℕ → Type 0) (at width : ℕ) (first : Search)
           (s.adds.only x h),
       λ h. leads_carries step (IsIn new.reached) (λ y z t r. s.closed y t z r) at x (s.adds.kept at (a.all at refl)) h,
     )
-
-    -- the list has just what is in the set
-    list_exact : (x : ℕ) → Contains new.list x ↔ LeadsTo step at x
-    list_exact x = (
-      λ h. (set_exact x).0 (subst (IsIn new.reached) (contains_at new.list x h) (⊎_elim
-          (λ early. s.adds.kept _ (subst (IsIn first.reached) (sym (s.adds.front h.0 early))
-          (a.adds.inside h.0 (omega arith) early)))
-          (λ late. s.adds.inside h.0 late h.1)
-          (cases_lt h.0 (length first.list)))),
-      λ h. ⊎_elim
-          (λ early. ⊎_elim (λ e. absurd (none_in_empty width x e))
-          (λ w. contains_from new.list x w.0 (omega (arith, w.2, s.adds.longer)) (s.adds.front w.0 w.2 ∙ w.3))
-          (a.adds.only x early))
-          (λ w. contains_from new.list x w.0 w.2 w.3)
-          (s.adds.only x ((set_exact x).1 h)),
-    )
-
-    all : AddsOfKind (λ _. ⊤) (record { reached = replicate width false; list = [] }) new
-    all = adds_append (λ _. ⊤) _ first new (adds_weaker _ (λ _. ⊤) (λ x h. tt) _ first a.adds)
-        (adds_weaker _ (λ _. ⊤) (λ x h. tt) first new s.adds)
-
-    -- the list has each element once
-    each_once : AllPairs (λ x y. x ≢ y) new.list
-    each_once i j d before within same = all.once i (omega arith) j (omega (arith, before)) within
-        (get_or_default new.list i 0 d (omega (arith, before, within)) ∙ (same ∙ get_or_default new.list j d 0 within))
-
-    pub found : IsFound step at new
-    found = record { set = set_exact; list = list_exact; once = each_once }

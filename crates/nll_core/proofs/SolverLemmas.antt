@@ -9,7 +9,7 @@ use Rattle.nll_problem.specs.Graph.{element_count}
 use Rattle.nll_problem.specs.Problem.{Problem, IsBase, IsUniversal, end_of}
 use Rattle.nll_problem.specs.Solution.{Asks, Satisfies, Least}
 use Rattle.nll_core.specs.Values.{set_of, holds, IsHeld, with_element, IsShaped}
-use Rattle.nll_core.specs.Growing.{Gains, Tells, IsBelow, StaysBelow, IsMet, IsClosed}
+use Rattle.nll_core.specs.Growing.{Gains, Tells, IsBelow, StaysBelow, IsMet, MeetsEach}
 use Rattle.nll_problem.specs.declared.base_run.BaseRun.{BaseRun}
 use Rattle.nll_problem.specs.declared.constraint.Constraint.{Constraint}
 use Rattle.nll_problem.proofs.BaseRunLemmas.{run_there, in_next}
@@ -182,7 +182,7 @@ module _ (q : Problem) where
 
   -- a round over all constraints that changed nothing met each of them
   pub rounding_closed : (first now : List (List Bool)) (changed : Bool) (count : ℕ) → length q.constraints ≤ count
-      → Rounding first now changed count → changed ≡ false → IsClosed q first
+      → Rounding first now changed count → changed ≡ false → MeetsEach q first
   rounding_closed first now changed count all r same =
       λ c h. subst (IsMet q first) h.2 (r.met same h.0 c (omega (arith, h.1)))
 
@@ -192,7 +192,7 @@ module _ (q : Problem) where
   -- are the least
   pub least_exact : (values : List (List Bool)) → ((r e : ℕ) → IsBase q r e → IsHeld values r e)
       → ((assignment : ℕ → ℕ → Bool) → Satisfies q (λ s f. IsTrue (assignment s f)) → IsBelow values assignment)
-      → IsClosed q values → (r e : ℕ) → IsHeld values r e ↔ Least q r e
+      → MeetsEach q values → (r e : ℕ) → IsHeld values r e ↔ Least q r e
   least_exact values base below closed r e = (
     λ h assignment sat. below assignment sat r e h,
     λ least. least (holds values) (record { base = base; each = closed }),

@@ -14,7 +14,7 @@ use Rattle.nll_problem.specs.declared.constraint.Constraint.{Constraint}
 use Rattle.nll_problem.proofs.AskLemmas.{asked_inside, asked_weaker}
 use Rattle.nll_core.specs.Search.{IsIn}
 use Rattle.nll_core.specs.Values.{set_of, IsHeld, IsShaped}
-use Rattle.nll_core.specs.Growing.{Gains, Tells, StaysBelow, IsMet, IsClosed}
+use Rattle.nll_core.specs.Growing.{Gains, Tells, StaysBelow, IsMet, MeetsEach}
 use Rattle.nll_core.specs.Walking.{no_constraint, constraint_at, PointsAscend, IsAskedOf}
 use Rattle.nll_core.specs.Worklist.{IsTracked, IsCleared, Advances, Visits, Turns, AreOfPair, AreOfOneSup, SupsAscend}
 use Rattle.nll_core.proofs.GrowingLemmas.{tells_append, gains_append, gains_weaker}
@@ -189,7 +189,7 @@ module _ (q : Problem) where
 
   -- where no region is marked, each constraint is met
   pub closed_clean : IsSound q → (values : List (List Bool)) (marks : List Bool) → IsTracked q values marks
-      → ((r : ℕ) → r < q.regions → flag marks r ≡ false) → IsClosed q values
+      → ((r : ℕ) → r < q.regions → flag marks r ≡ false) → MeetsEach q values
   closed_clean sound values marks t clean =
       λ c h. ⊎_elim (λ d. absurd (false≢true (sym (clean c.sub (sound.constraint_regions c h).1) ∙ d))) (λ m. m) (t c h)
 

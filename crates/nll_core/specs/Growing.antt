@@ -60,5 +60,5 @@ abbrev pub IsMet : Problem → List (List Bool) → Constraint → Type 0
 IsMet q values c = Meets q values c values
 
 -- the values meet each constraint
-abbrev pub IsClosed : Problem → List (List Bool) → Type 0
-IsClosed q values = (c : Constraint) → Contains q.constraints c → IsMet q values c
+abbrev pub MeetsEach : Problem → List (List Bool) → Type 0
+MeetsEach q values = (c : Constraint) → Contains q.constraints c → IsMet q values c

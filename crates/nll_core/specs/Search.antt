@@ -1,10 +1,10 @@
 -- What a search through a relation has reached, and what it adds. Source: project's choice. Only
 -- private contracts cite this file.
 use Rattle.std.specs.Prelude.{◌≡◌, ◌≢◌, ◌⊎◌, ◌↔◌, ℕ, ◌+◌, ◌<◌, ◌≤◌, Bool, true, false, not, ⊤}
-use Rattle.std.specs.Prelude.{List, Contains, AllPairs, length, count_by, slice_index}
+use Rattle.std.specs.Prelude.{List, length, count_by, slice_index}
 use Rattle.nll_sets.specs.ElementSet.{flag}
 use Rattle.nll_problem.specs.Graph.{Graph, IsStep}
-use Rattle.nll_problem.specs.Walks.{IsWalk, Reaches}
+use Rattle.nll_problem.specs.Walks.{IsWalk}
 
 -- The elements that were reached: as a set, and as a list in the order in which they were reached.
 pub record Search : Type 0 where
@@ -50,11 +50,6 @@ IsLedTo step reached x = (y : ℕ) × IsIn reached y × LeadsTo step y x
 -- the set has all elements that one step from x leads to
 abbrev pub IsCovered : (ℕ → ℕ → Type 0) → List Bool → ℕ → Type 0
 IsCovered step reached x = HasAll (step x) reached
-
--- The list is of what the walks of the graph inside the set reach from `at`, each element once.
-pub record AreReached (g : Graph) (set : List Bool) (at : ℕ) (list : List ℕ) : Type 0 where
-  pub each : (x : ℕ) → Contains list x ↔ Reaches g (IsIn set) at x
-  pub once : AllPairs (λ x y. x ≢ y) list
 
 -- ---- what a search adds
 
@@ -102,8 +97,6 @@ pub record Spreads (step : ℕ → ℕ → Type 0) (old new : Search) : Type 0 w
   pub adds : AddsOfKind (IsLedTo step old.reached) old new
   pub closed : (x : ℕ) → IsIn new.reached x → IsCovered step new.reached x
 
--- Both the set and the list are of what walks lead to from `at`; the list has each element once.
-pub record IsFound (step : ℕ → ℕ → Type 0) (at : ℕ) (s : Search) : Type 0 where
-  pub set : (x : ℕ) → IsIn s.reached x ↔ LeadsTo step at x
-  pub list : (x : ℕ) → Contains s.list x ↔ LeadsTo step at x
-  pub once : AllPairs (λ x y. x ≢ y) s.list
+-- the set has exactly what walks lead to from `at`
+abbrev pub IsFound : (ℕ → ℕ → Type 0) → ℕ → Search → Type 0
+IsFound step at s = (x : ℕ) → IsIn s.reached x ↔ LeadsTo step at x

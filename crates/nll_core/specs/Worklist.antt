@@ -5,7 +5,7 @@ use Rattle.nll_sets.specs.ElementSet.{flag}
 use Rattle.nll_problem.specs.At.{at_rank}
 use Rattle.nll_problem.specs.Problem.{Problem}
 use Rattle.nll_problem.specs.declared.constraint.Constraint.{Constraint}
-use Rattle.nll_core.specs.Growing.{Tells, StaysBelow, IsClosed, IsMet}
+use Rattle.nll_core.specs.Growing.{Tells, StaysBelow, MeetsEach, IsMet}
 use Rattle.nll_core.specs.Values.{set_of, IsHeld, IsShaped}
 use Rattle.nll_core.specs.Walking.{constraint_at}
 
@@ -53,7 +53,7 @@ pub record Completes (q : Problem) (old new : List (List Bool)) : Type 0 where
   pub shaped : IsShaped q new
   pub kept : (r e : ℕ) → IsHeld old r e → IsHeld new r e
   pub below : StaysBelow q old new
-  pub closed : IsClosed q new
+  pub closed : MeetsEach q new
 
 -- Values on the way to the least ones: they grew towards the solutions, and each constraint is met
 -- or its `sub` marked.

@@ -15,7 +15,6 @@ mod indexed;
 mod known_outlives;
 mod lines;
 mod order;
-mod reachability;
 mod region_elements;
 mod satisfaction;
 mod search;
@@ -33,7 +32,6 @@ pub use nll_problem::{
     MAX_UNIVERSALS, Problem, ProblemBuilder, RegionId,
 };
 pub use nll_sets::{BitSet, Element, ElementSet, Elements, Memory, Run, RunSet};
-pub use reachability::reached_from;
 pub use region_elements::RegionElements;
 pub use solver::solve;
 pub use values::Values;

@@ -42,8 +42,8 @@ ReadsParts {A} {B} parts meant bytes None = (b : B) → Spells bytes (parts b) �
 ReadsParts {A} {B} parts meant bytes (Some a) = Spells bytes (parts (meant a))
 
 -- nothing
-abbrev pub nothing : Unit {0} → List Part
-nothing _ = []
+abbrev pub no_parts : Unit {0} → List Part
+no_parts _ = []
 
 -- one number
 abbrev pub one_number : ℕ → List Part

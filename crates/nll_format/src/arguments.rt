@@ -7,7 +7,7 @@ use nll_text::{is_gap, number_at, region_at};
 
 /// Nothing.
 pub fn nothing(rest: &[u8]) -> Option<()>
-    ensures { ReadsParts shapes.nothing (λ n. n) rest.now result }
+    ensures { ReadsParts shapes.no_parts (λ n. n) rest.now result }
 {
     if !is_gap(rest) {
         return None;

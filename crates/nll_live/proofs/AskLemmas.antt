@@ -1,5 +1,5 @@
 -- What variables ask for.
-use Rattle.std.proofs.Common.{◌≡◌, ◌⊎◌, ◌↔◌, ℕ, ◌+◌, ◌<◌, ◌≤◌, List, Contains, length, Some, None, slice_get, get_or, inl, inr, subst, ⊎_elim, arith}
+use Rattle.std.proofs.Common.{◌≡◌, ◌⊎◌, ◌↔◌, ℕ, ◌+◌, ◌<◌, ◌≤◌, List, Contains, length, Some, None, slice_get, get_or, inl, inr, subst, sym, ⊎_elim, arith}
 use Rattle.std.specs.Prelude.{[]}
 use Rattle.std.proofs.lemmas.Bool.{cases_lt}
 use Rattle.std.proofs.lemmas.Option.{slice_get_cases, slice_get_within}
@@ -8,6 +8,8 @@ use Rattle.nll_body.specs.Bodies.{BodyText, HasType}
 use Rattle.nll_body.specs.Sound.{IsSoundBody}
 use Rattle.nll_body.proofs.KeptLemmas.{good_type}
 use Rattle.nll_body.proofs.RangeLemmas.{region_within, drop_region_within}
+use Rattle.nll_problem.specs.Rows.{row_at}
+use Rattle.nll_live.specs.Gathering.{AreListed}
 use Rattle.nll_live.proofs.WalkLemmas.{live_within}
 use Rattle.nll_live.specs.Live.{UsesAt, DropsAt, AsksForUse, AsksForDrop, IsBaseOf}
 use Rattle.nll_live.specs.Kinds.{AsksFor, KeepsAt}
@@ -67,6 +69,9 @@ module _ (asks : ℕ → ℕ → ℕ → Type 0) (first : List BaseRun) where
   abbrev pub AreAskedTo : ℕ → List BaseRun → Type 0
   AreAskedTo n now = GainsRuns (λ r p. (x : ℕ) × (x < n) × asks x r p) first now
 
+  pub asked_to_first : AreAskedTo 0 first
+  asked_to_first = gains_none (λ r p. (x : ℕ) × (x < 0) × asks x r p) first (λ r p h. absurd (omega (arith, h.1)))
+
   pub asked_to_step : (n : ℕ) (mid new : List BaseRun) → AreAskedTo n mid → GainsRuns (asks n) mid new
       → AreAskedTo (n + 1) new
   asked_to_step n mid new before more =
@@ -96,6 +101,16 @@ declared kind body x r p h = slice_get_within body.variables x h.0 h.1
 pub kept_within : (kind : Kind) (body : BodyText) (x p : ℕ) → KeepsAt kind body x p → p < length body.points
 kept_within Use body x p h = slice_get_within body.points p h.0 h.1
 kept_within Drop body x p h = slice_get_within body.points p h.0 h.1
+
+-- a list of all that keeps a variable live has just that
+pub ends_are : (body : BodyText) (keeps : ℕ → ℕ → Type 0) (lists : List (List ℕ)) (x : ℕ) (list : List ℕ)
+    → x < length body.variables → ((p : ℕ) → keeps x p → p < length body.points)
+    → AreListed (length body.variables) keeps (length body.points) lists → list ≡ row_at lists x → (p : ℕ)
+    → Contains list p ↔ keeps x p
+ends_are body keeps lists x list low within listed is p = (
+  λ h. ((listed.each x p low).0 (subst (λ xs. Contains xs p) is h)).0,
+  λ h. subst (λ xs. Contains xs p) (sym is) ((listed.each x p low).1 (h, within p h)),
+)
 
 -- what uses and drops ask for together are the base elements
 pub both_asked : (body : BodyText) (mid new : List BaseRun) → GainsRuns (λ r p. (x : ℕ) × AsksFor Use body x r p) [] mid

@@ -194,15 +194,6 @@ listed_step count holds n old new f g = record {
       );
 }
 
--- no list has a point for a variable that isn't there
-pub listed_within : (count : ℕ) (holds : ℕ → ℕ → Type 0) (n : ℕ) (lists : List (List ℕ)) → AreListed count holds n lists
-    → (x p : ℕ) → IsListed lists x p → (x < count) × holds x p × (p < n)
-listed_within count holds n lists f x p listed = ⊎_elim
-    (λ low. let is = (f.each x p low).0 listed in (low, is.0, is.1))
-    (λ high. absurd (contains_none p (subst (λ row. Contains row p)
-    (get_or_past lists x [] (omega (arith, high, f.counted))) listed)))
-    (cases_lt x count)
-
 -- ---- order
 
 none_ascends : AllPairs ◌<◌ []

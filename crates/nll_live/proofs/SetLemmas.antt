@@ -1,28 +1,20 @@
 -- Sets of points, one a variable.
 use Rattle.std.proofs.Common.{◌≡◌, ◌↔◌, ℕ, ◌+◌, ◌<◌, ◌≤◌, Bool, true, false, List, [], ◌∷◌, ◌++◌, Contains, length, get_or, replicate, take, Result, Ok, Err, sym, ap, ◌∙◌, subst, ⊎_elim, arith, length-append}
-use Rattle.std.specs.Prelude.{slice_index_or, IfOk, OnOk}
+use Rattle.std.specs.Prelude.{slice_index_or, IfOk}
 use Rattle.std.proofs.lemmas.Bool.{cases_lt, false≢true}
 use Rattle.std.proofs.lemmas.List.{length-replicate, get_or-replicate, get_or_append_left, get_or_push, get_or_past, take_more}
 use Rattle.std.proofs.lemmas.List.Elements.{Contains-push, Contains-push_cases, Contains-append_left}
 use Rattle.nll_sets.specs.ElementSet.{flag}
 use Rattle.nll_sets.specs.Runs.{Fills}
 use Rattle.nll_sets.specs.declared.run.Run.{Run}
-use Rattle.nll_body.specs.Bodies.{BodyText}
-use Rattle.nll_live.specs.Live.{IsLive}
-use Rattle.nll_live.specs.Gathering.{IsListed, AreListed}
-use Rattle.nll_live.specs.LiveSets.{IsInSet, AreSetsOf}
+use Rattle.nll_live.specs.LiveSets.{IsInSet}
 use Rattle.nll_live.specs.Marks.{IsUnderMark}
 use Rattle.nll_live.proofs.GatheringLemmas.{contains_none}
-use Rattle.nll_live.proofs.WalkLemmas.{live_same}
 
 -- what holds of a value, where there is one, is of any larger kind
 pub if_ok : {T E : Type 0} (r : Result T E) (P Q : T → Type 0) → ((x : T) → P x → Q x) → IfOk r P → IfOk r Q
 if_ok (Ok x) P Q f h = f x h
 if_ok (Err e) P Q f h = tt
-
-pub on_ok : {T E : Type 0} (r : Result T E) (P Q : Type 0) → (P → Q) → OnOk r P → OnOk r Q
-on_ok (Ok x) P Q f h = f h
-on_ok (Err e) P Q f h = tt
 
 -- ---- the set of a list
 
@@ -100,21 +92,4 @@ sets_step width holds n sets new are size is = record {
       subst (λ s. (flag s p ≡ true) ↔ holds x p) (sym (get_or_push sets new [] x (omega (arith, high, h, are.counted))))
       (subst (λ y. (flag new p ≡ true) ↔ holds y p) (sym same) (is p)))
       (cases_lt x n);
-}
-
--- the lists have just the ends of the walks
-pub sets_as : (body : BodyText) (ends : ℕ → ℕ → Type 0) (lists : List (List ℕ)) (sets : List (List Bool))
-    → ((x p : ℕ) → ends x p → p < length body.points)
-    → AreListed (length body.variables) ends (length body.points) lists
-    → AreSetsOf body (λ x. IsLive body (IsListed lists x) x) sets → AreSetsOf body (λ x. IsLive body (ends x) x) sets
-sets_as body ends lists sets within listed are = record {
-  counted = are.counted;
-  width = are.width;
-  each = λ x p h.
-      let low : x < length body.variables = omega (arith, h, are.counted) in (
-        λ on. live_same body (IsListed lists x) (ends x) x p (λ q k. ((listed.each x q low).0 k).0)
-            ((are.each x p h).0 on),
-        λ live. (are.each x p h).1 (live_same body (ends x) (IsListed lists x) x p
-            (λ q k. (listed.each x q low).1 (k, within x q k)) live),
-      );
 }

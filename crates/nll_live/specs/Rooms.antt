@@ -1,5 +1,5 @@
 -- What a search has in its room. Source: project's choice. Only private contracts cite this file.
-use Rattle.std.specs.Prelude.{ℕ}
+use Rattle.std.specs.Prelude.{◌≡◌, ℕ, ◌≤◌, length, slice_index}
 use Rattle.nll_live.specs.Marks.{AreFound, IsUnderNewMark, ReachesMore}
 use Rattle.nll_live.specs.declared.search.Room.{Room}
 
@@ -16,3 +16,9 @@ abbrev pub GetsReached : (ℕ → ℕ → Type 0) → ℕ → Room → Room → 
 GetsReached kind turn old new = ReachesMore kind turn
     old.marks.items old.heights.items old.lows.items
     new.marks.items new.heights.items new.lows.items
+
+-- The room has a mark and a height for each of n points, and no mark is of a later turn.
+pub record IsRoomOf (n turn : ℕ) (room : Room) : Type 0 where
+  pub width : length room.marks.items ≡ n
+  pub tall : length room.heights.items ≡ n
+  pub fresh : (p : ℕ) → slice_index room.marks.items p ≤ turn

@@ -1,12 +1,10 @@
 //! What keeps variables live.
 
-ghost use Rattle.std.specs.Prelude.{◌↔◌, ◌<◌, ℕ, length, map, Contains, IfOk};
+ghost use Rattle.std.specs.Prelude.{◌↔◌, ◌<◌, ℕ, length, Contains, IfOk};
 ghost use Rattle.nll_types.specs.Types.{TypeTree};
 ghost use Rattle.nll_body.specs.Bodies.{HasType};
-ghost use Rattle.nll_live.specs.Gathering.{AreListed};
-ghost use Rattle.nll_live.specs.Kinds.{IsWantedOfType, KeepsAt};
+ghost use Rattle.nll_live.specs.Kinds.{IsWantedOfType};
 
-use crate::points_by_variable::{drops_by_variable, uses_by_variable};
 use nll_body::Body;
 use nll_problem::RegionId;
 use nll_sets::Memory;
@@ -20,22 +18,6 @@ pub(crate) enum Kind {
 }
 
 impl Kind {
-    /// For each variable the points that use it, or those that drop it.
-    pub(crate) fn points_by_variable(
-        self,
-        alloc: Global,
-        body: &Body,
-    ) -> Result<Vec<Vec<u32>>, Memory>
-        ensures { IfOk result (λ lists. AreListed (length body.now.variables)
-            (KeepsAt self body.now) (length body.now.points)
-            (map (λ list. list.items) lists.items)) }
-    {
-        match self {
-            Kind::Use => uses_by_variable(alloc, body),
-            Kind::Drop => drops_by_variable(alloc, body),
-        }
-    }
-
     /// The regions that a variable asks for where it is live: those of its type, or its drop
     /// regions.
     pub(crate) fn regions(

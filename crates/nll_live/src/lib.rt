@@ -1,8 +1,8 @@
 //! Liveness: where the value of a variable may still be used or dropped, and the base elements of
 //! regions that follow from it. It knows no text.
 //!
-//! Reading order: `live_sets`, `live_points`, `base_search`, `base_elements`; `kind`, `ways`,
-//! `points_by_variable`, `chains`, `lows`, `search`, `base_runs`. The definitions are in specs/.
+//! Reading order: `base_search`, `live_points`, `kind`, `ways`, `points_by_variable`, `chains`,
+//! `lows`, `search`, `base_runs`; `live_sets`, `base_elements`. The definitions are in specs/.
 #![tactic(auto)]
 
 mod base_elements;
@@ -19,5 +19,4 @@ mod ways;
 
 pub use base_elements::bases;
 pub use base_search::live_runs;
-pub use live_points::liveness;
-pub use live_sets::LiveSets;
+pub use live_sets::{LiveSets, liveness};

@@ -6,11 +6,11 @@
 //! a number of its own.
 
 ghost use Rattle.std.specs.Prelude.{◌≡◌, ◌↔◌, ◌<◌, ◌≤◌, ℕ, [], length, slice_index};
-ghost use Rattle.std.specs.Prelude.{Contains, IfOk, IsTrue, OnOk, replicate};
+ghost use Rattle.std.specs.Prelude.{Contains, IfOk, IsTrue, OnOk};
 ghost use Rattle.nll_live.specs.Live.{DefinesAt, GoesOnUndefined, IsLive};
 ghost use Rattle.nll_live.specs.Searches.{IsLowIn, IsSearch};
 ghost use Rattle.nll_live.specs.Marks.{IsUnderMark};
-ghost use Rattle.nll_live.specs.Rooms.{GetsReached, HasFound, HasReached};
+ghost use Rattle.nll_live.specs.Rooms.{GetsReached, HasFound, HasReached, IsRoomOf};
 
 use crate::lows::low_of;
 use nll_body::Body;
@@ -41,8 +41,7 @@ pub(crate) struct Search<'b> {
 impl Room {
     /// Room for searches among this many points, with the marks of none.
     pub(crate) fn of(alloc: Global, points: u32) -> Result<Room, Memory>
-        ensures marks { IfOk result (λ room. room.marks.items ≡ replicate points 0) }
-        ensures heights { IfOk result (λ room. length room.heights.items ≡ points) }
+        ensures { IfOk result (IsRoomOf points 0) }
     {
         let marks = Vec::from_elem(alloc, 0, points as usize)?;
         let heights = Vec::from_elem(alloc, 0, points as usize)?;

@@ -4,7 +4,7 @@ use Rattle.std.specs.Prelude.{codes}
 use Rattle.std.specs.Borrow.{Bor}
 use Rattle.nll_text.specs.Tokens.{Token, word, region, arrow, sign}
 use Rattle.nll_mir_grammar.specs.WrittenTypes.{WrittenName, WrittenType, WrittenTypes, Arguments, int, reference, tuple, named, function, none, more, no_argument, region_argument, type_argument, is_capital, spelled, spelled_more_parts, spelled_more_arguments, IsFree}
-use Rattle.nll_mir_grammar.specs.OpenTypes.{Frame, behind, parts, arguments, inputs, output, Closes, ReadsType, FramesGoOn, Finishes, Steps, BeginsType}
+use Rattle.nll_mir_grammar.specs.OpenTypes.{Frame, behind, parts, arguments, inputs, output, Closes, ReadsType, FramesGoOn, FinishesType, Steps, BeginsType}
 use Rattle.nll_mir_grammar.specs.declared.opens.State.TheVariants.{Want, WantArgument, Have, WantArrow}
 use Rattle.nll_mir_grammar.specs.declared.fronts.Front.TheVariants as fronts
 use Rattle.nll_mir_grammar.proofs.FrontLemmas.{int_no_name, fn_no_name, fn_no_int, apart, no_mut, no_closing}
@@ -137,7 +137,7 @@ step_generic fs t' u' s after name = record {
   where
     there : (whole : WrittenType) (rest : List Token) (t : WrittenType) (mid : List Token)
         → ReadsType (word s ∷ sign 60 ∷ after) t mid → Closes fs t mid whole rest
-        → Finishes WantArgument (arguments s no_argument ∷ fs) u' after whole rest
+        → FinishesType WantArgument (arguments s no_argument ∷ fs) u' after whole rest
     there whole rest int mid r c =
         absurd (let j = r.joins in let e : mid ≡ sign 60 ∷ after = cc in
         closes_free fs int after whole rest (subst (λ m. Closes fs int m whole rest) e c))
@@ -198,7 +198,7 @@ step_thunk fs t' u' after = record {
   where
     there : (whole : WrittenType) (rest : List Token) (t : WrittenType) (mid : List Token)
         → ReadsType (word (codes "fn") ∷ sign 40 ∷ sign 41 ∷ after) t mid → Closes fs t mid whole rest
-        → Finishes WantArrow (output none ∷ fs) u' after whole rest
+        → FinishesType WantArrow (output none ∷ fs) u' after whole rest
     there whole rest int mid r c = absurd (let j = r.joins in let e : codes "fn" ≡ codes "int" = cc in fn_no_int e)
     there whole rest (named s args) mid r c =
         absurd (let j = r.joins in let e : codes "fn" ≡ s = cc in

@@ -7,7 +7,7 @@ use Rattle.std.proofs.Math.Seq.{take-length}
 use Rattle.nll_text.specs.Tokens.{Token, sign}
 use Rattle.nll_mir_grammar.specs.WrittenTypes.{WrittenName, WrittenType, WrittenTypes, Arguments, int, reference, tuple, named, function, none, more, no_argument, type_argument}
 use Rattle.nll_mir_grammar.specs.TypeTexts.{Piece, plain, piece_steps, part_steps, argument_steps, add_type, begin_reference, make_tuple, make_named, make_function, begin_row, joined_arguments}
-use Rattle.nll_mir_grammar.specs.OpenTypes.{Frame, behind, parts, arguments, inputs, output, joined_types, Steps, begun, complete, IsOpen, AreOpen, IsFitting, AreRead, ComesTo, GoesFurther, pending, BeginsType, IsBegun, IsCompleted, IsInnermostClosed, EndsWith}
+use Rattle.nll_mir_grammar.specs.OpenTypes.{Frame, behind, parts, arguments, inputs, output, joined_types, Steps, begun, complete, IsOpen, AreOpen, IsFitting, AreRead, ReachesFrames, GoesFurther, pending, BeginsType, IsBegun, IsCompleted, IsInnermostClosed, EndsWith}
 use Rattle.nll_mir_grammar.specs.declared.opens.State.{State}
 use Rattle.nll_mir_grammar.specs.declared.opens.State.TheVariants.{Want, WantArgument, Have, Inside, WantArrow}
 use Rattle.nll_mir_grammar.specs.declared.fronts.Front.{Front}
@@ -87,7 +87,7 @@ pub comes_so : (s s' : State) (frames frames' : List Frame) (t t' : WrittenType)
     (ps ps' row : List TypePiece) (os os' : List Open) → AreRead s frames t ps os → ps' ≡ ps ++ row
     → (begun frames ++ complete s t) ++ map plain row ≡ begun frames' ++ complete s' t'
     → AreOpen (reverse os') frames' → IsFitting s' frames' → Steps s frames t ts s' frames' t' ts'
-    → ComesTo s frames t ts s' ps' os' ts'
+    → ReachesFrames s frames t ts s' ps' os' ts'
 comes_so s s' frames frames' t t' ts ts' ps ps' row os os' r put made are fits step = grind (arith, map-append)
 
 -- ---- the beginning of a type
@@ -349,7 +349,7 @@ closed_tuple ps ps' os os' s e h frames t c next r ends =
     subst (λ (z : State). IsInnermostClosed frames t c os z ps' os') (sym h.0)
     (by_frame os os' opens.Tuple Closed f (λ q m frames closed r ends. absurd ends)
     (λ g frames is are. subst (λ z. Closed (z ∷ frames)) (sym is.1) (λ r ends. record {
-      comes = λ ts. subst (λ z. ComesTo Inside (parts is.0 ∷ frames) t (sign z ∷ ts) Have ps' os' ts) (sym ends.0)
+      comes = λ ts. subst (λ z. ReachesFrames Inside (parts is.0 ∷ frames) t (sign z ∷ ts) Have ps' os' ts) (sym ends.0)
           (comes_so Inside Have (parts is.0 ∷ frames) frames t (tuple is.0) (sign 41 ∷ ts) ts ps ps'
           (kept.Tuple ∷ []) os os' r h.1 (row_ends (begun frames) (part_steps is.0) make_tuple) are tt
           (step_close_part frames is.0 t ts));
@@ -372,7 +372,7 @@ closed_name n ps ps' os os' s e h frames t c next r ends =
     subst (λ (z : State). IsInnermostClosed frames t c os z ps' os') (sym h.0)
     (by_frame os os' (opens.Arguments n) Closed f (λ q m frames closed r ends. absurd ends)
     (λ g frames is are. subst (λ z. Closed (z ∷ frames)) (sym is.1) (λ r ends. record {
-      comes = λ ts. subst (λ z. ComesTo Inside (arguments n.now is.0 ∷ frames) t (sign z ∷ ts) Have ps' os' ts)
+      comes = λ ts. subst (λ z. ReachesFrames Inside (arguments n.now is.0 ∷ frames) t (sign z ∷ ts) Have ps' os' ts)
           (sym ends.0)
           (comes_so Inside Have (arguments n.now is.0 ∷ frames) frames t (named n.now is.0) (sign 62 ∷ ts) ts ps ps'
           (kept.Named n ∷ []) os os' r h.1 (row_ends (begun frames) (argument_steps is.0) (make_named n.now)) are tt
@@ -413,7 +413,7 @@ closed_inputs ps os os' o s e which h frames t c next r ends =
     awaited : (g : Frame) (frames : List Frame) → AreOpen (reverse outer) frames
         → (done : WrittenTypes) × (g ≡ inputs done) → Closed (g ∷ frames)
     awaited g frames are is = subst (λ z. Closed (z ∷ frames)) (sym is.1) (λ r ends. record {
-      comes = λ ts. subst (λ z. ComesTo Inside (inputs is.0 ∷ frames) t (sign z ∷ ts) WantArrow ps os' ts)
+      comes = λ ts. subst (λ z. ReachesFrames Inside (inputs is.0 ∷ frames) t (sign z ∷ ts) WantArrow ps os' ts)
           (sym ends.0)
           (comes_so Inside WantArrow (inputs is.0 ∷ frames) (output is.0 ∷ frames) t t (sign 41 ∷ ts) ts ps ps
           [] os os' r (sym (append-nil ps)) (append-nil (begun (inputs is.0 ∷ frames) ++ []))

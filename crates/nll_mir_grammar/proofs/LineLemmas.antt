@@ -5,12 +5,8 @@ use Rattle.std.specs.Prelude.{codes, Result, Ok, Err, IfOk, MatchOption}
 use Rattle.std.proofs.lemmas.Bool.{false≢true}
 use Rattle.nll_text.specs.Tokens.{Token, word, sign}
 use Rattle.nll_types.specs.Places.{PlacePath}
-use Rattle.nll_types.specs.Operands.{Operand, constant, copied, moved, operand_of}
+use Rattle.nll_types.specs.Operands.{Operand, constant, copied, moved}
 use Rattle.nll_mir_grammar.specs.WrittenTypes.{WrittenName, WrittenType, HasNames, IsFree}
-use Rattle.nll_types.specs.declared.operand.Operand.{Operand as Written}
-use Rattle.nll_mir_grammar.specs.TypeTexts.{written}
-use Rattle.nll_mir_grammar.specs.declared.type_text.TypePiece.{TypePiece}
-use Rattle.nll_mir_grammar.specs.Lines.{argument_of}
 use Rattle.nll_body.specs.Statements.{assign, borrow, make, read, live, dead, nop, goto, switch, drop, call, return, stop}
 use Rattle.nll_mir_grammar.specs.MirForms.{Form, universal, outlives, further, assert_line, struct_line, variable, blocks, block, at_point, end, spelled_form, IsWritable, IsWritableOperand, IsSpelled}
 use Rattle.nll_mir_grammar.specs.Versions.{is_of_version, IsSpelledIn}
@@ -67,13 +63,6 @@ call_side ts rest mid p f args t wheres b unwind r e w s = record {
   begins = grind (arith, pair_found, behind_found);
   same = refl;
 }
-
--- the arguments of a call in the code, in two steps
-pub arguments_same : (xs : List (Written × List TypePiece))
-    → map (λ (a : Operand × List TypePiece). (a.0, written a.1))
-    (map (λ (a : Written × List TypePiece). (operand_of a.0, a.1)) xs) ≡ map argument_of xs
-arguments_same [] = refl
-arguments_same (x ∷ xs) = ap (λ l. (operand_of x.0, written x.1) ∷ l) (arguments_same xs)
 
 -- ---- assignments
 

@@ -9,7 +9,7 @@ use Rattle.nll_mir_grammar.specs.WrittenTypes.{WrittenName, WrittenType, Argumen
 use Rattle.nll_mir_grammar.specs.Reading.{HasNoType, IsTypeIn}
 use Rattle.nll_text.specs.Grammars.{HasNone, IsNotNext, regions, Begins as Starts}
 use Rattle.nll_mir_grammar.specs.TypeTexts.{Piece, plain, piece_steps, argument_steps, add_region, begin_row, joined_arguments, written, IsType}
-use Rattle.nll_mir_grammar.specs.OpenTypes.{Frame, behind, parts, arguments, inputs, output, Steps, IsStuck, begun, complete, AreOpen, IsFitting, AreRead, ComesTo, GoesFurther, pending, EndsWith, takes_region}
+use Rattle.nll_mir_grammar.specs.OpenTypes.{Frame, behind, parts, arguments, inputs, output, Steps, IsStuck, begun, complete, AreOpen, IsFitting, AreRead, ReachesFrames, GoesFurther, pending, EndsWith, takes_region}
 use Rattle.nll_mir_grammar.specs.declared.opens.State.{State}
 use Rattle.nll_mir_grammar.specs.declared.opens.State.TheVariants.{Want, WantArgument, Have, Inside, WantArrow}
 use Rattle.nll_mir_grammar.specs.declared.opens.Open.{Open}
@@ -124,7 +124,7 @@ further_region ts rest _ t ps ps' os q s takes is h r = absurd (false≢true tak
 
 -- nothing is read yet
 pub first_comes : (t : WrittenType) (ts : List Token) (ps : List TypePiece) (os : List Open) → ps ≡ [] → os ≡ []
-    → ComesTo Want [] t ts Want ps os ts
+    → ReachesFrames Want [] t ts Want ps os ts
 first_comes t ts ps os e f = rw (e, f) (record {
   frames' = [];
   t' = t;
@@ -154,7 +154,7 @@ whole_in ts at_ts ps (output _ ∷ frames) t same r = absurd r.are_open
 
 -- This is so where the loop ends.
 pub at_end : (s : State) (ts at_ts : List Token) (ps : List TypePiece) (os : List Open) → s ≡ Have
-    → (length os == 0) ≡ true → ComesTo Want [] int ts s ps os at_ts → IsWhole ts at_ts ps
+    → (length os == 0) ≡ true → ReachesFrames Want [] int ts s ps os at_ts → IsWhole ts at_ts ps
 at_end s ts at_ts ps os e none_open c = grind (arith, whole_in, nil_from_length, eqb-true)
 
 -- Then the pieces are those of a type, which stands in front where no `<` follows; `o` has what is behind a `<`.

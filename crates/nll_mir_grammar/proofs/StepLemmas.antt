@@ -4,7 +4,7 @@ use Rattle.nll_text.specs.Tokens.{Token, region, arrow, sign}
 use Rattle.nll_mir_grammar.specs.WrittenTypes.{WrittenName, WrittenType, WrittenTypes, Arguments, int, reference, tuple, named, function, none, more, no_argument, region_argument, type_argument, mutability, spelled, spelled_parts, spelled_more_parts, spelled_arguments, spelled_more_arguments, HaveNames, ArgumentsHaveNames, IsFree, BeginsWithType}
 use Rattle.nll_mir_grammar.specs.Reading.{HasNoType, IsTypeIn}
 use Rattle.nll_mir_grammar.specs.TypeTexts.{joined_arguments}
-use Rattle.nll_mir_grammar.specs.OpenTypes.{Frame, parts, arguments, inputs, output, joined_types, Closes, GoesInside, ReadsType, FramesGoOn, GoesOnWithRegion, Finishes, Steps, TypesGoOn, ResultGoesOn, IsStuck, IsNoFront}
+use Rattle.nll_mir_grammar.specs.OpenTypes.{Frame, parts, arguments, inputs, output, joined_types, Closes, GoesInside, ReadsType, FramesGoOn, GoesOnWithRegion, FinishesType, Steps, TypesGoOn, ResultGoesOn, IsStuck, IsNoFront}
 use Rattle.nll_mir_grammar.specs.declared.opens.State.{State}
 use Rattle.nll_mir_grammar.specs.declared.opens.State.TheVariants.{Want, WantArgument, Have, Inside, WantArrow}
 use Rattle.nll_mir_grammar.proofs.FrontLemmas.{apart, no_name_of}
@@ -172,7 +172,7 @@ step_comma_argument fs n done t' u' after = record {
     there : (whole : WrittenType) (rest : List Token) (us : Arguments) (mid : List Token)
         → sign 44 ∷ after ≡ spelled_more_arguments us ++ mid → ArgumentsHaveNames us
         → Closes fs (named n (joined_arguments done us)) mid whole rest
-        → Finishes WantArgument (arguments n done ∷ fs) u' after whole rest
+        → FinishesType WantArgument (arguments n done ∷ fs) u' after whole rest
     there whole rest no_argument mid e h c = absurd (let h : sign 44 ≡ sign 62 = cc in apart 44 62 refl h)
     there whole rest (region_argument q us) mid e h c = grind (arith, joined_region)
     there whole rest (type_argument t us) mid e h c = grind (arith, append_assoc, joined_type)
@@ -239,7 +239,7 @@ stuck_region fs t' q after other whole rest = ⊎_elim (by fs refl) (λ f. no_re
 
 -- ---- the end
 
-pub reads_of : (ts rest : List Token) (t : WrittenType) → BeginsWithType ts t rest → Finishes Want [] int ts t rest
+pub reads_of : (ts rest : List Token) (t : WrittenType) → BeginsWithType ts t rest → FinishesType Want [] int ts t rest
 reads_of ts rest t b = (t, rest, record { joins = b.joined; names = b.names }, (refl, refl, b.free))
 
 pub none_here : (s : State) (fs : List Frame) (ts at_ts : List Token) (t' : WrittenType)

@@ -10,7 +10,7 @@ use Rattle.nll_types.specs.declared.operand.Operand.{Operand as Written}
 use Rattle.nll_mir_grammar.specs.WrittenTypes.{WrittenType}
 use Rattle.nll_mir_grammar.specs.TypeTexts.{written}
 use Rattle.nll_mir_grammar.specs.declared.type_text.TypePiece.{TypePiece}
-use Rattle.nll_body.specs.CodeStatements.{arguments_of}
+use Rattle.nll_mir_grammar.specs.Lines.{argument_of}
 
 -- whether all of a row pass, of which the first ones did
 module _ {A B : Type 0} (f : A → B) (p : B → Bool) where
@@ -50,8 +50,7 @@ all_push p (y ∷ xs) x = ap (λ b. p y && b) (all_push p xs x) ∙ and_rest (p 
 
 -- the types of a call's parameters
 pub call_types : (args : List (Written × List TypePiece))
-    → map (λ (a : Operand × WrittenType). a.1)
-    (map (λ (a : Operand × List TypePiece). (a.0, written a.1)) (arguments_of args))
+    → map (λ (a : Operand × WrittenType). a.1) (map argument_of args)
     ≡ map (λ (a : Written × List TypePiece). written a.1) args
 call_types [] = refl
 call_types (a ∷ args) = ap (λ ts. written a.1 ∷ ts) (call_types args)

@@ -3,14 +3,14 @@
 use Rattle.std.specs.Prelude.{ℕ, List, map, Option}
 use Rattle.std.specs.Borrow.{Bor}
 use Rattle.std.specs.Global.{Vec}
+use Rattle.nll_types.specs.Places.{path_of}
 use Rattle.nll_types.specs.Operands.{Operand, operand_of}
 use Rattle.nll_types.specs.declared.operand.Operand.{Operand as Written}
 use Rattle.nll_mir_grammar.specs.WrittenTypes.{WrittenName, WrittenType}
 use Rattle.nll_mir_grammar.specs.TypeTexts.{written}
 use Rattle.nll_mir_grammar.specs.declared.type_text.TypePiece.{TypePiece}
-use Rattle.nll_body.specs.Statements.{Statement, live, dead, nop, map_statement}
-use Rattle.nll_body.specs.CodeStatements.{statement_of}
-use Rattle.nll_body.specs.declared.statement.Statement.{Statement as Kept}
+use Rattle.nll_body.specs.Statements.{Statement, assign, borrow, make, read, live, dead, nop}
+use Rattle.nll_body.specs.Statements.{goto, switch, drop, call, return, stop}
 use Rattle.nll_mir_grammar.specs.MirForms.{Form, universal, outlives, further, assert_line}
 use Rattle.nll_mir_grammar.specs.MirForms.{struct_line, variable, blocks, block, at_point, end}
 use Rattle.nll_mir_grammar.specs.MirForms.{WrittenParameter, region_parameter, type_parameter}
@@ -22,6 +22,10 @@ use Rattle.nll_mir_grammar.specs.declared.line.Line.TheVariants as lines
 use Rattle.nll_mir_grammar.specs.declared.line.ParameterText.{ParameterText}
 use Rattle.nll_mir_grammar.specs.declared.line.StructText.{StructText}
 use Rattle.nll_mir_grammar.specs.declared.line.ParameterText.TheVariants as parameters
+use Rattle.nll_mir_grammar.specs.declared.statement.Make.{Make}
+use Rattle.nll_mir_grammar.specs.declared.statement.Call.{Call}
+use Rattle.nll_mir_grammar.specs.declared.statement.Statement.{Statement as Kept}
+use Rattle.nll_mir_grammar.specs.declared.statement.Statement.TheVariants as kept
 
 -- an argument of a call in the code
 abbrev pub argument_of : Written × List TypePiece → Operand × WrittenType
@@ -38,9 +42,31 @@ abbrev pub parameter_of : ParameterText → WrittenParameter
 parameter_of (parameters.Region a p) = region_parameter a.now p
 parameter_of (parameters.Type n p) = type_parameter n.now p
 
--- a statement of the code as the line at its point
-abbrev pub point_form : Kept (Bor (List ℕ)) (List TypePiece) → Form
-point_form s = at_point (map_statement (λ r. r.now) written (statement_of s))
+-- what a statement of the code makes
+abbrev pub made_of : Make → Statement WrittenName WrittenType
+made_of m = make (path_of m.place) (written m.ty) (map operand_of m.operands.items)
+
+-- a call of the code
+abbrev pub call_of : Call → Statement WrittenName WrittenType
+call_of c =
+    call (path_of c.place) (map argument_of c.arguments.items) (written c.result)
+    (map (λ w. (w.0.now, w.1.now)) c.wheres.items) c.target c.unwind
+
+-- a statement of the code, without where its parts lie in memory
+abbrev pub statement_of : Kept → Statement WrittenName WrittenType
+statement_of (kept.Assign p op) = assign (path_of p) (operand_of op)
+statement_of (kept.Borrow p r m q) = borrow (path_of p) r.now m (path_of q)
+statement_of (kept.Make b) = made_of b.value
+statement_of (kept.Read p) = read (path_of p)
+statement_of (kept.Live x) = live x
+statement_of (kept.Dead x) = dead x
+statement_of kept.Nop = nop
+statement_of (kept.Goto b) = goto b
+statement_of (kept.Switch op bs) = switch (operand_of op) bs.items
+statement_of (kept.Drop x b unwind) = drop x b unwind
+statement_of (kept.Call c) = call_of c.value
+statement_of kept.Return = return
+statement_of kept.Stop = stop
 
 -- a statement of the code that names at most a variable
 abbrev pub statement_of_light : Light → Statement WrittenName WrittenType
@@ -64,5 +90,5 @@ form_of (lines.Struct b) = struct_form b.value
 form_of (lines.Let x t) = variable x (written t)
 form_of (lines.Blocks n) = blocks n
 form_of (lines.Block n) = block n
-form_of (lines.At s) = point_form s
+form_of (lines.At s) = at_point (statement_of s)
 form_of lines.End = end

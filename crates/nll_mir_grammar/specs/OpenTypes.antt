@@ -131,14 +131,14 @@ GoesOnWithRegion _ ts whole rest = ⊥
 
 -- The tokens complete what is begun: the whole type comes out, and after it the rest. Where a type
 -- is complete, it is `t`.
-abbrev pub Finishes :
+abbrev pub FinishesType :
     State → List Frame → WrittenType → List Token → WrittenType → List Token → Type 0
-Finishes Want frames t ts whole rest = FramesGoOn frames ts whole rest
-Finishes WantArgument frames t ts whole rest =
+FinishesType Want frames t ts whole rest = FramesGoOn frames ts whole rest
+FinishesType WantArgument frames t ts whole rest =
     GoesOnWithRegion frames ts whole rest ⊎ FramesGoOn frames ts whole rest
-Finishes Have frames t ts whole rest = Closes frames t ts whole rest
-Finishes Inside frames t ts whole rest = GoesInside frames ts whole rest
-Finishes WantArrow frames t ts whole rest =
+FinishesType Have frames t ts whole rest = Closes frames t ts whole rest
+FinishesType Inside frames t ts whole rest = GoesInside frames ts whole rest
+FinishesType WantArrow frames t ts whole rest =
     (mid : List Token) × (ts ≡ arrow ∷ mid) × FramesGoOn frames mid whole rest
 
 -- From here and from there the same types come out.
@@ -146,15 +146,15 @@ pub record Steps (s : State) (frames : List Frame) (t : WrittenType) (ts : List 
     (s' : State) (frames' : List Frame) (t' : WrittenType) (ts' : List Token) : Type 0 where
   pub there :
       (whole : WrittenType) (rest : List Token) →
-      Finishes s frames t ts whole rest → Finishes s' frames' t' ts' whole rest
+      FinishesType s frames t ts whole rest → FinishesType s' frames' t' ts' whole rest
   pub back :
       (whole : WrittenType) (rest : List Token) →
-      Finishes s' frames' t' ts' whole rest → Finishes s frames t ts whole rest
+      FinishesType s' frames' t' ts' whole rest → FinishesType s frames t ts whole rest
 
 -- No type comes out.
 abbrev pub IsStuck : State → List Frame → WrittenType → List Token → Type 0
 IsStuck s frames t ts =
-    (whole : WrittenType) (rest : List Token) → Finishes s frames t ts whole rest → ⊥
+    (whole : WrittenType) (rest : List Token) → FinishesType s frames t ts whole rest → ⊥
 
 -- ---- pieces, and what is open
 
@@ -209,7 +209,7 @@ pending Have = 1
 pending _ = 0
 
 -- From these frames and this type the code reached others, and the same types come out.
-pub record ComesTo (s : State) (frames : List Frame) (t : WrittenType) (ts : List Token)
+pub record ReachesFrames (s : State) (frames : List Frame) (t : WrittenType) (ts : List Token)
     (s' : State) (ps' : List TypePiece) (opened' : List Open) (ts' : List Token) : Type 0 where
   pub frames' : List Frame
   pub t' : WrittenType
@@ -222,21 +222,21 @@ pub record GoesFurther (s : State) (frames : List Frame) (t : WrittenType) (open
     (rest : List Token) : Type 0 where
   pub falls :
       length opened' + pending s' + 4 * length rest < length opened + pending s + 4 * length ts
-  pub comes : ComesTo s frames t ts s' ps' opened' rest
+  pub comes : ReachesFrames s frames t ts s' ps' opened' rest
 
 -- A type began like this, and the same types come out.
 pub record IsBegun (front : Front) (frames : List Frame) (t : WrittenType) (opened : List Open)
     (s' : State) (ps' : List TypePiece) (opened' : List Open) : Type 0 where
   pub comes :
       (ts rest : List Token) → BeginsType front ts rest
-      → ComesTo Want frames t ts s' ps' opened' rest
+      → ReachesFrames Want frames t ts s' ps' opened' rest
   pub few : length opened' + pending s' ≤ length opened + 2
 
 -- A complete type became a part of the innermost thing that was open, or completed it, and the
 -- same types come out.
 pub record IsCompleted (frames : List Frame) (t : WrittenType) (opened : List Open)
     (s' : State) (ps' : List TypePiece) (opened' : List Open) : Type 0 where
-  pub comes : (ts : List Token) → ComesTo Have frames t ts s' ps' opened' ts
+  pub comes : (ts : List Token) → ReachesFrames Have frames t ts s' ps' opened' ts
   pub few : length opened' + pending s' ≤ length opened
 
 -- the innermost frame takes a region
@@ -255,5 +255,5 @@ EndsWith _ c s = ⊥
 -- The innermost thing that was open is closed by this sign, and the same types come out.
 pub record IsInnermostClosed (frames : List Frame) (t : WrittenType) (c : ℕ) (opened : List Open)
     (s' : State) (ps' : List TypePiece) (opened' : List Open) : Type 0 where
-  pub comes : (ts : List Token) → ComesTo Inside frames t (sign c ∷ ts) s' ps' opened' ts
+  pub comes : (ts : List Token) → ReachesFrames Inside frames t (sign c ∷ ts) s' ps' opened' ts
   pub few : length opened' + pending s' ≤ length opened + 1

@@ -17,9 +17,9 @@ use crate::lines::{
 };
 use crate::pairs::Read;
 use crate::points::{drop_line, read_line, switch_line};
+use crate::statement::Statement;
 use crate::version::{Version, is_of_version};
 use crate::words::{block_at, variable_at};
-use nll_body::Statement;
 use nll_sets::Memory;
 use nll_text::{behind_gap, is_gap};
 use std::alloc::Global;

@@ -4,8 +4,8 @@ ghost use Rattle.std.specs.Prelude.{◌≡◌};
 ghost use Rattle.nll_mir_grammar.specs.TypeTexts.{written};
 ghost use Rattle.nll_mir_grammar.specs.Tuples.{IsTuple};
 
+use crate::statement::Statement;
 use crate::type_text::TypeText;
-use nll_body::Statement;
 use nll_types::Parameter;
 use std::marker::Model;
 
@@ -79,6 +79,6 @@ pub enum Line<'a> {
     Blocks(u32),
     Block(u32),
     /// A statement or a terminator.
-    At(Statement<&'a [u8], TypeText<'a>>),
+    At(Statement<'a>),
     End,
 }

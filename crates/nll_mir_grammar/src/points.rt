@@ -11,8 +11,8 @@ use crate::blocks::{blocks_at, exits_at};
 use crate::line::Line;
 use crate::pairs::Read;
 use crate::place::{operand_at, place_at};
+use crate::statement::Statement;
 use crate::words::variable_at;
-use nll_body::Statement;
 use std::alloc::Global;
 
 /// After `drop`.

@@ -4,12 +4,13 @@ ghost use Rattle.std.specs.Prelude.{◌≡◌, not, map};
 ghost use Rattle.std.specs.List.{list_all};
 ghost use Rattle.nll_mir_grammar.specs.Functions.{has_function};
 ghost use Rattle.nll_mir_grammar.specs.TypeTexts.{written};
-ghost use Rattle.nll_mir_grammar.specs.Lines.{form_of, parameter_of, point_form};
+ghost use Rattle.nll_mir_grammar.specs.Lines.{form_of, parameter_of, statement_of};
+ghost use Rattle.nll_mir_grammar.specs.MirForms.{at_point};
 ghost use Rattle.nll_mir_grammar.specs.Versions as spec;
 
 use crate::line::{Line, ParameterText};
+use crate::statement::Statement;
 use crate::type_text::TypeText;
-use nll_body::Statement;
 use nll_types::{Operand, Sign};
 
 /// A version of MIR texts.
@@ -59,8 +60,8 @@ fn are_first_arguments(arguments: &[(Operand, TypeText<'_>)]) -> bool
 }
 
 // Whether the types that are written in a statement or terminator may be in a text of version 1.
-fn is_first_statement<'a>(statement: &Statement<&'a [u8], TypeText<'a>>) -> bool
-    ensures { result ≡ spec.is_of_first (point_form statement.now) }
+fn is_first_statement(statement: &Statement<'_>) -> bool
+    ensures { result ≡ spec.is_of_first (at_point (statement_of statement.now)) }
 {
     match statement {
         Statement::Make(make) => !make.ty.has_function(),

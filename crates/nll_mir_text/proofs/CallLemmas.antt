@@ -20,13 +20,13 @@ use Rattle.nll_types.proofs.RowLemmas.{tree_is, has_row, tree_later, rows_later}
 use Rattle.nll_mir_grammar.specs.WrittenTypes.{WrittenName, WrittenType}
 use Rattle.nll_mir_grammar.specs.TypeTexts.{written}
 use Rattle.nll_mir_grammar.specs.declared.type_text.TypePiece.{TypePiece}
-use Rattle.nll_body.specs.CodeStatements.{arguments_of, call_of}
+use Rattle.nll_mir_grammar.specs.Lines.{argument_of, call_of}
+use Rattle.nll_mir_grammar.specs.declared.statement.Call.{Call}
 use Rattle.nll_body.specs.Flat.{StatementLists, argument_in, call_in}
-use Rattle.nll_body.specs.Statements.{Statement, call, map_statement, types_written}
+use Rattle.nll_body.specs.Statements.{Statement, call, types_written}
 use Rattle.nll_body.specs.Within.{AddsArguments, AreFlatArguments, AreWithin, ListsGrow, IsCallIn, IsListedSlice, IsNumberOf}
 use Rattle.nll_body.specs.declared.flat.FlatCall.{FlatCall}
 use Rattle.nll_body.specs.declared.flat.Slice.{Slice}
-use Rattle.nll_body.specs.declared.statement.Call.{Call}
 use Rattle.nll_body.proofs.FlatLemmas.{grows_further, listed_kept, number_kept}
 use Rattle.nll_mir_text.specs.Naming.{Scope, is_name_among, is_known, has_arguments, meant}
 use Rattle.nll_mir_text.specs.Resolution.{IsResolved}
@@ -125,14 +125,12 @@ names_of_bounds names (w ∷ ws) =
 
 all_of_texts : (p : WrittenType → Bool) (texts : List (KeptOperand × List TypePiece))
     → list_all (λ a. p (written a.1)) texts
-    ≡ list_all p (map (λ (a : Operand × WrittenType). a.1)
-    (map {B = Operand × WrittenType} (λ a. (a.0, written a.1)) (arguments_of texts)))
+    ≡ list_all p (map (λ (a : Operand × WrittenType). a.1) (map argument_of texts))
 all_of_texts p [] = refl
 all_of_texts p (a ∷ texts) = ap (λ b. p (written a.1) && b) (all_of_texts p texts)
 
 texts_fused : (s : Scope) (args : List (KeptOperand × List TypePiece))
-    → map {B = Operand × TypeTree} (λ a. (a.0, meant s a.1))
-    (map {B = Operand × WrittenType} (λ a. (a.0, written a.1)) (arguments_of args)) ≡ map (argument_meant s) args
+    → map {B = Operand × TypeTree} (λ a. (a.0, meant s a.1)) (map argument_of args) ≡ map (argument_meant s) args
 texts_fused s [] = refl
 texts_fused s (a ∷ args) = ap (λ bs. argument_meant s a ∷ bs) (texts_fused s args)
 
@@ -145,10 +143,9 @@ bounds_fused names (w ∷ ws) = ap (λ vs. bound_numbers names w ∷ vs) (bounds
 
 -- ---- a call
 
-module _ (s : Scope) (c : Call (Bor (List ℕ)) (List TypePiece)) where
-  -- the call as its line has it
+module _ (s : Scope) (c : Call) where
   abbrev line : Statement WrittenName WrittenType
-  line = map_statement (λ r. r.now) written (call_of c)
+  line = call_of c
 
   abbrev bounds_known : Bool
   bounds_known = list_all (is_bound s.regions) c.wheres.items

@@ -13,14 +13,13 @@ use Rattle.nll_types.proofs.RowLemmas.{tree_is, has_row}
 use Rattle.nll_types.proofs.ShapingLemmas.{extends_same, grows_then}
 use Rattle.nll_mir_grammar.specs.WrittenTypes.{WrittenName, WrittenType}
 use Rattle.nll_mir_grammar.specs.TypeTexts.{written}
-use Rattle.nll_mir_grammar.specs.declared.type_text.TypePiece.{TypePiece}
-use Rattle.nll_body.specs.CodeStatements.{made_of}
+use Rattle.nll_mir_grammar.specs.Lines.{made_of}
+use Rattle.nll_mir_grammar.specs.declared.statement.Make.{Make}
 use Rattle.nll_body.specs.Flat.{StatementLists}
 use Rattle.nll_body.specs.Meant.{meant_by}
-use Rattle.nll_body.specs.Statements.{Statement, make, map_statement, types_written}
+use Rattle.nll_body.specs.Statements.{Statement, make, types_written}
 use Rattle.nll_body.specs.Within.{ListsGrow, IsFlatStatement}
 use Rattle.nll_body.specs.declared.flat.Stmt.{Stmt}
-use Rattle.nll_body.specs.declared.statement.Make.{Make}
 use Rattle.nll_mir_text.specs.Naming.{Scope, has_arguments}
 use Rattle.nll_mir_text.specs.Resolution.{IsResolved}
 use Rattle.nll_mir_text.specs.ResolvedStatements.{has_names, meant_in, IsFlatOf, IsOfStatement}
@@ -57,10 +56,9 @@ pub flat_of : (s : Scope) (i : Statement WrittenName WrittenType) (types : BodyT
 flat_of s i types lists flat k of is = record { within = is.0; of = subst (IsOfStatement s i types) (sym is.1) of }
 
 -- what is made over numbers
-pub made_resolved : (s : Scope) (types : BodyTypes) (m : Make (List TypePiece)) (v : Typed)
+pub made_resolved : (s : Scope) (types : BodyTypes) (m : Make) (v : Typed)
     → IsResolved s (written m.ty) types v
-    → IsOfStatement s (map_statement (λ (r : WrittenName). r) written (made_of m)) types
-    (make (path_of m.place) v (map operand_of m.operands.items))
+    → IsOfStatement s (made_of m) types (make (path_of m.place) v (map operand_of m.operands.items))
 made_resolved s types m v of = grind (arith, and-true, alone, has_row, tree_is)
 
 -- Lists grew by a statement without types, for which the number stands.

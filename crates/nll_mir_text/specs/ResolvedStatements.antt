@@ -14,10 +14,9 @@ use Rattle.nll_types.specs.declared.typed.Typed.{Typed}
 use Rattle.nll_mir_grammar.specs.WrittenTypes.{WrittenName, WrittenType}
 use Rattle.nll_mir_grammar.specs.TypeTexts.{written}
 use Rattle.nll_mir_grammar.specs.declared.type_text.TypePiece.{TypePiece}
-use Rattle.nll_body.specs.Statements.{Statement, is_terminator, map_statement, types_written}
+use Rattle.nll_body.specs.Statements.{Statement, is_terminator, types_written}
 use Rattle.nll_body.specs.Exits.{edges_from}
 use Rattle.nll_body.specs.Written.{regions_written}
-use Rattle.nll_body.specs.CodeStatements.{statement_of}
 use Rattle.nll_body.specs.Meant.{HasRows, meant_by}
 use Rattle.nll_body.specs.Typing.{types_are_small}
 use Rattle.nll_body.specs.Flat.{StatementLists, statement_in}
@@ -25,16 +24,11 @@ use Rattle.nll_body.specs.Within.{IsStatementIn}
 use Rattle.nll_body.specs.declared.exits.Exits.{Exits}
 use Rattle.nll_body.specs.declared.flat.Stmt.{Stmt}
 use Rattle.nll_body.specs.declared.judgement.Judgement.{Judgement}
-use Rattle.nll_body.specs.declared.statement.Statement.{Statement as Kept}
 use Rattle.nll_mir_text.specs.Naming.{Scope, is_name_among, is_known, has_arguments, meant}
 pub use Rattle.nll_mir_text.specs.MirSaid.{meant_in}
 use Rattle.nll_mir_text.specs.MirSaid.{Said}
 use Rattle.nll_mir_text.specs.MirSteps.{statement_meant}
 use Rattle.nll_mir_text.specs.MirFaults.{knows, shapes_fit}
-
--- a statement of the code as its line has it
-abbrev pub as_written : Kept (Bor (List ℕ)) (List TypePiece) → Statement WrittenName WrittenType
-as_written i = map_statement (λ r. r.now) written (statement_of i)
 
 -- each name in the statement is declared: those of regions outside types, and those in types
 abbrev pub has_names : Scope → Statement WrittenName WrittenType → Bool

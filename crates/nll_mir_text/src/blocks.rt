@@ -1,7 +1,7 @@
 //! Lines of the blocks, and the statements at points.
 
 ghost use Rattle.std.specs.Prelude.{◌≡◌, Bool, Some, IfErr, OnOk};
-ghost use Rattle.nll_mir_grammar.specs.Lines.{statement_of_light};
+ghost use Rattle.nll_mir_grammar.specs.Lines.{statement_of, statement_of_light};
 ghost use Rattle.nll_mir_grammar.specs.MirForms as forms;
 ghost use Rattle.nll_mir_grammar.specs.WrittenTypes.{WrittenName, WrittenType};
 ghost use Rattle.nll_body.specs.Flat.{statement_in};
@@ -12,16 +12,16 @@ ghost use Rattle.nll_mir_text.specs.MirFaults.{first_fault, knows};
 ghost use Rattle.nll_mir_text.specs.MirReading.{said_by, scope_in, IsAdmitted, IsDue, IsReady};
 ghost use Rattle.nll_mir_text.specs.MirReading.{IsTaken, IsRefused};
 ghost use Rattle.nll_mir_text.specs.ResolvedLines.{IsPlaced};
-ghost use Rattle.nll_mir_text.specs.ResolvedStatements.{as_written, AreExits, IsFlatOf, IsOfPoint};
+ghost use Rattle.nll_mir_text.specs.ResolvedStatements.{AreExits, IsFlatOf, IsOfPoint};
 
 use crate::groups::Group;
 use crate::ranges::targets_are_blocks;
 use crate::reader::Reader;
 use crate::resolution::resolve_statement;
 use crate::tables::scope_in;
-use nll_body::{Exits, Judgement, Places, Statement, Stmt, judge_statement};
+use nll_body::{Exits, Judgement, Places, Stmt, judge_statement};
 use nll_format::TextKind;
-use nll_mir_grammar::{Light, TypeText};
+use nll_mir_grammar::{Light, Statement};
 use nll_problem::{Kind, MAX_EDGES, MAX_POINTS};
 
 impl Reader {
@@ -177,15 +177,12 @@ impl Reader {
     }
 
     /// Adds the statement at the next point.
-    pub(crate) fn add_statement(
-        &mut self,
-        statement: &Statement<&[u8], TypeText<'_>>,
-    ) -> Result<(), TextKind>
-        requires { IsDue self.old (forms.at_point (as_written statement.now)) }
+    pub(crate) fn add_statement(&mut self, statement: &Statement<'_>) -> Result<(), TextKind>
+        requires { IsDue self.old (forms.at_point (statement_of statement.now)) }
         ensures taken { OnOk result
-            (IsTaken (said_by self.old) (forms.at_point (as_written statement.now)) self.new) }
+            (IsTaken (said_by self.old) (forms.at_point (statement_of statement.now)) self.new) }
         ensures refused { IfErr result
-            (IsRefused (said_by self.old) (forms.at_point (as_written statement.now))) }
+            (IsRefused (said_by self.old) (forms.at_point (statement_of statement.now))) }
     {
         // Clause call.
         let _ = self.points.statements.call_counts();

@@ -5,23 +5,22 @@ ghost use Rattle.std.specs.Prelude.{◌≡◌, ◌<◌, ◌^◌, ◌&&◌, List,
 ghost use Rattle.std.specs.Prelude.{IfOk, MatchOption, true, false};
 ghost use Rattle.std.specs.List.{list_all};
 ghost use Rattle.nll_format.specs.Names.{number_of};
+ghost use Rattle.nll_mir_grammar.specs.Lines.{call_of, statement_of};
 ghost use Rattle.nll_mir_grammar.specs.TypeTexts.{written};
 ghost use Rattle.nll_types.specs.Grown.{AddsTypes};
 ghost use Rattle.nll_types.specs.Operands.{Operand as Used};
 ghost use Rattle.nll_types.specs.declared.typed.Typed.{Typed as Numbered};
-ghost use Rattle.nll_body.specs.CodeStatements.{call_of};
-ghost use Rattle.nll_body.specs.Statements.{map_statement};
 ghost use Rattle.nll_body.specs.Within.{AreFlatArguments, ListsGrow, IsListedSlice};
 ghost use Rattle.nll_mir_text.specs.Naming.{has_arguments, is_name_among, is_known};
 ghost use Rattle.nll_mir_text.specs.Resolution.{HasRoom, scope_of};
-ghost use Rattle.nll_mir_text.specs.ResolvedStatements.{as_written, is_bound, bound_numbers};
+ghost use Rattle.nll_mir_text.specs.ResolvedStatements.{is_bound, bound_numbers};
 ghost use Rattle.nll_mir_text.specs.ResolvedStatements.{AreOfArguments, FitOf, MadeOf};
 
 use crate::scope::Scope;
 use crate::type_resolution::{Resolving, resolve};
-use nll_body::{Call, FlatCall, Slice, Statement, Statements, Stmt};
+use nll_body::{FlatCall, Slice, Statements, Stmt};
 use nll_format::Names;
-use nll_mir_grammar::TypeText;
+use nll_mir_grammar::{Call, Statement, TypeText};
 use nll_problem::RegionId;
 use nll_sets::Memory;
 use nll_types::{BodyTypes, Operand};
@@ -51,7 +50,10 @@ fn resolve_bounds(
         (λ s. (list_all (is_bound names.now) bounds.now ≡ true)
         × IsListedSlice statements.new.pairs (map (bound_numbers names.now) bounds.now) s)) }
 {
-    let slice = Slice::of(statements.call_counts().1, bounds.len())?;
+    let slice = Slice {
+        first: statements.call_counts().1,
+        count: bounds.len(),
+    };
     for bound in bounds {
         let Some(longer) = resolve_region(names, bound.0) else {
             return Ok(None);
@@ -83,7 +85,10 @@ fn resolve_arguments(
         × AreFlatArguments statements.new args s × (fits.new ≡ (fits.old
         && list_all (λ a. has_arguments (scope_of scope.now) (written a.1)) arguments.now)))) }
 {
-    let slice = Slice::of(statements.call_counts().0, arguments.len())?;
+    let slice = Slice {
+        first: statements.call_counts().0,
+        count: arguments.len(),
+    };
     for argument in arguments {
         match resolve(scope, &argument.1, types, made, fits)? {
             Some(ty) => statements.add_argument(&argument.0, ty)?,
@@ -96,7 +101,7 @@ fn resolve_arguments(
 // Adds a call, where its names are declared.
 fn resolve_call(
     scope: &Scope<'_>,
-    call: &Call<&[u8], TypeText<'_>>,
+    call: &Call<'_>,
     types: &mut BodyTypes,
     statements: &mut Statements,
     made: &mut Resolving,
@@ -105,10 +110,10 @@ fn resolve_call(
     requires { HasRoom scope.now }
     ensures adds { IfOk result (λ _. AddsTypes types.old types.new) }
     ensures grows { ListsGrow statements.old statements.new }
-    ensures made { IfOk result (λ o. MadeOf (scope_of scope.now)
-        (map_statement (λ r. r.now) written (call_of call.now)) types.new statements.new o) }
-    ensures fits { IfOk result (λ o. FitOf (scope_of scope.now)
-        (map_statement (λ r. r.now) written (call_of call.now)) fits.old fits.new o) }
+    ensures made { IfOk result (λ o. MadeOf (scope_of scope.now) (call_of call.now)
+        types.new statements.new o) }
+    ensures fits { IfOk result
+        (λ o. FitOf (scope_of scope.now) (call_of call.now) fits.old fits.new o) }
 {
     let place = statements.add_place(&call.place)?;
     let Some(wheres) = resolve_bounds(scope.regions, call.wheres.as_slice(), statements)? else {
@@ -137,7 +142,7 @@ fn resolve_call(
 /// it takes.
 pub fn resolve_statement(
     scope: &Scope<'_>,
-    statement: &Statement<&[u8], TypeText<'_>>,
+    statement: &Statement<'_>,
     types: &mut BodyTypes,
     statements: &mut Statements,
     made: &mut Resolving,
@@ -146,10 +151,10 @@ pub fn resolve_statement(
     requires { HasRoom scope.now }
     ensures adds { IfOk result (λ _. AddsTypes types.old types.new) }
     ensures grows { ListsGrow statements.old statements.new }
-    ensures made { IfOk result (λ o. MadeOf (scope_of scope.now) (as_written statement.now)
+    ensures made { IfOk result (λ o. MadeOf (scope_of scope.now) (statement_of statement.now)
         types.new statements.new o) }
     ensures fits { IfOk result
-        (λ o. FitOf (scope_of scope.now) (as_written statement.now) fits.old fits.new o) }
+        (λ o. FitOf (scope_of scope.now) (statement_of statement.now) fits.old fits.new o) }
 {
     let made = match statement {
         Statement::Assign(target, operand) => statements.add_assign(target, operand)?,

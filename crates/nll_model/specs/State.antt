@@ -75,7 +75,7 @@ pub record IsFirst (q : Problem) (c : Cut) (w : WorldState) : Type 0 where
   pub balance : w.balance ≡ c.owners
 
 -- The world of this problem and cut before the first event.
-pub record IsNew (q : Problem) (c : Cut) (w : World) : Type 0 where
+pub record IsNewWorld (q : Problem) (c : Cut) (w : World) : Type 0 where
   pub problem : w.problem ≡ q
   pub cut : w.cut ≡ c
   pub first : IsFirst q c w.state

@@ -5,7 +5,7 @@ ghost use Rattle.std.specs.Prelude.{Some, IfSome};
 ghost use Rattle.nll_core.specs.Values.{IsHeld, IsShaped};
 ghost use Rattle.nll_owner.specs.Tables.{AreTables};
 ghost use Rattle.fixpoint.specs.declared.error.PartError.TheVariants.{Memory as memory, Broken};
-ghost use Rattle.nll_model.specs.State.{World, IsNew};
+ghost use Rattle.nll_model.specs.State.{World, IsNewWorld};
 ghost use Rattle.nll_model.specs.Events.{IsAnswerOf, IsPossible};
 ghost use Rattle.nll_model.specs.Soundness.{IsLawful, IsOrderly, LogSays};
 ghost use Rattle.nll_model.specs.declared.error.ModelError.TheVariants.{NotNow, Owner};
@@ -64,7 +64,7 @@ impl<'q> World<'q> {
     /// - `Memory`.
     pub fn new(alloc: Global, problem: &'q Problem, cut: &'q Cut) -> Result<World<'q>, Memory>
         requires { length cut.now.list ≡ problem.now.regions }
-        ensures new { IfOk result (IsNew problem.now cut.now) }
+        ensures new { IfOk result (IsNewWorld problem.now cut.now) }
         ensures lawful { IfOk result (λ w. IsLawful problem.now cut.now w.state) }
     {
         World::of_tables(alloc, problem, cut, None)
@@ -82,7 +82,7 @@ impl<'q> World<'q> {
     ) -> Result<World<'q>, Memory>
         requires cut { length cut.now.list ≡ problem.now.regions }
         requires tables { AreTables problem.now cut.now tables.now }
-        ensures new { IfOk result (IsNew problem.now cut.now) }
+        ensures new { IfOk result (IsNewWorld problem.now cut.now) }
         ensures lawful { IfOk result (λ w. IsLawful problem.now cut.now w.state) }
     {
         World::of_tables(alloc, problem, cut, Some(tables))
@@ -98,7 +98,7 @@ impl<'q> World<'q> {
     ) -> Result<World<'q>, Memory>
         requires cut { length cut.now.list ≡ problem.now.regions }
         requires tables { IfSome tables (λ t. AreTables problem.now cut.now t.now) }
-        ensures new { IfOk result (IsNew problem.now cut.now) }
+        ensures new { IfOk result (IsNewWorld problem.now cut.now) }
         ensures lawful { IfOk result (λ w. IsLawful problem.now cut.now w.state) }
     {
         let owners = cut.owners();

@@ -29,7 +29,7 @@ pub(crate) fn push_pair(
     ensures repeated { Contains pairs.old.items pair → IsOk result }
 {
     let room = pairs.reserve(1);
-    if room.is_err() && has_pair(pairs.as_slice(), &pair) {
+    if room.is_err() && pairs.contains(&pair) {
         return Ok(());
     }
     room?;
@@ -85,14 +85,6 @@ pub(crate) fn insert(
     room?;
     constraints.push_reserved(*constraint);
     Ok(())
-}
-
-// Whether a pair is there.
-#[cold]
-fn has_pair(pairs: &[(RegionId, RegionId)], pair: &(RegionId, RegionId)) -> bool
-    ensures { IsTrue result ↔ Contains pairs.now pair.now }
-{
-    pairs.contains(pair)
 }
 
 // Whether runs have each point of a run.

@@ -4,6 +4,7 @@ use Rattle.std.specs.Prelude.{◌≡◌, ◌⊎◌, ◌↔◌, ◌<◌, ℕ, Lis
 use Rattle.nll_problem.specs.BaseRuns.{IsInBaseRuns}
 use Rattle.nll_problem.specs.Building.{bare_problem}
 use Rattle.nll_problem.specs.Graph.{Graph}
+use Rattle.nll_problem.specs.GraphBuilding.{bare_graph}
 use Rattle.nll_problem.specs.Limits.{most_constraints}
 use Rattle.nll_problem.specs.Problem.{Problem, IsOnce, IsUniversal}
 use Rattle.nll_problem.specs.declared.base_run.BaseRun.{BaseRun}
@@ -17,13 +18,19 @@ use Rattle.nll_types.specs.Types.{TypeTree}
 use Rattle.nll_body.specs.Statements.{Statement}
 use Rattle.nll_body.specs.Bodies.{BodyText, IsGraphOf, StandsAt}
 use Rattle.nll_rules.specs.Asking.{AsksInAll}
-use Rattle.nll_rules.specs.BodyProblem.{IsAskedAt, HasTooMany}
+use Rattle.nll_rules.specs.BodyProblem.{IsAskedAt, IsProblemOf, HasTooMany}
 use Rattle.nll_rules.specs.declared.error.RuleError.{RuleError}
 use Rattle.nll_rules.specs.declared.error.RuleError.TheVariants as told
 
--- the problem is that of the body's graph, without a further region and without a fact
+-- the problem is of the body's points and universal regions alone
 abbrev pub IsBareOf : BodyText → Problem → Type 0
-IsBareOf body q = (g : Graph) × IsGraphOf body g × (q ≡ bare_problem g)
+IsBareOf body q = q ≡ bare_problem (bare_graph (length body.points) body.universals)
+
+-- The problem has the body's points, regions and facts: on a graph of the body it is the body's.
+pub record HasFactsOf (body : BodyText) (q : Problem) : Type 0 where
+  pub points : q.graph.points ≡ length body.points
+  pub universals : q.graph.universals ≡ body.universals
+  pub each : (g : Graph) → IsGraphOf body g → IsProblemOf body (record q { graph = g })
 
 -- ---- facts that are all in range
 

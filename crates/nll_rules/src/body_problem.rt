@@ -1,8 +1,7 @@
 //! The problem of a body.
 
-ghost use Rattle.std.specs.Prelude.{◌≡◌, ◌<◌, IfErr, IfOk, OnOk};
-ghost use Rattle.nll_problem.specs.Problem.{IsSound, SameProblem};
-ghost use Rattle.nll_rules.specs.Adding.{IsBareOf, IsRefusedFor};
+ghost use Rattle.std.specs.Prelude.{IfErr, IfOk, OnOk};
+ghost use Rattle.nll_rules.specs.Adding.{HasFactsOf, IsBareOf, IsRefusedFor};
 ghost use Rattle.nll_rules.specs.BodyProblem.{HasTooMany, IsProblemOf, IsRuleError};
 
 use crate::constraints::add_constraints;
@@ -33,38 +32,37 @@ pub fn problem_of(alloc: Global, body: &Body) -> Result<Problem, RuleError>
     ensures few { IfOk result (λ _. HasTooMany body.now → ⊥) }
     ensures err { IfErr result (IsRuleError body.now) }
 {
-    match ProblemBuilder::of_graph(alloc, body.graph()) {
-        Ok(mut builder) => match fill(alloc, body, &mut builder) {
-            Ok(()) => Ok(finished(builder)),
-            Err(error) => {
-                drop(builder);
-                Err(told_of(error))
+    match facts_of(alloc, body) {
+        Ok(mut problem) => match problem.copy_graph(alloc, body.graph()) {
+            Ok(()) => Ok(problem),
+            Err(_) => {
+                drop(problem);
+                Err(RuleError::Memory)
             }
         },
-        Err(_) => Err(RuleError::Memory),
+        Err(error) => Err(told_of(error)),
     }
 }
 
-// The problem of a builder.
-fn finished(builder: ProblemBuilder) -> Problem
-    ensures same { SameProblem builder result }
-    ensures others { result ≡ record builder { bases = result.bases; outlives = result.outlives } }
-    ensures sound { IsSound result }
+// The problem of a body, but for the edges and return points.
+fn facts_of(alloc: Global, body: &Body) -> Result<Problem, BuildError>
+    ensures ok { IfOk result (HasFactsOf body.now) }
+    ensures err { IfErr result (IsRefusedFor body.now) }
 {
-    match builder.finish() {
-        Ok(problem) => {
-            // Clause call: the problem is sound.
-            let _ = problem.universals();
-            problem
+    let mut builder = ProblemBuilder::new(alloc, body.points(), body.universals())?;
+    match fill(alloc, body, &mut builder) {
+        Ok(()) => builder.finish(),
+        Err(error) => {
+            drop(builder);
+            Err(error)
         }
-        Err(_) => unreachable!(),
     }
 }
 
-// Adds all facts of a body to the problem of its graph.
+// Adds all facts of a body, but for the edges and return points.
 fn fill(alloc: Global, body: &Body, builder: &mut ProblemBuilder) -> Result<(), BuildError>
     requires { IsBareOf body.now builder.old }
-    ensures ok { OnOk result (IsProblemOf body.now builder.new) }
+    ensures ok { OnOk result (HasFactsOf body.now builder.new) }
     ensures err { IfErr result (IsRefusedFor body.now) }
 {
     // Clause call: the body is sound.

@@ -2,12 +2,12 @@
 use super::deals::Deal;
 use super::failure::Failure;
 use super::notes::Notes;
-use super::run_text::{compare, told};
+use super::run_text::{compare, filled, told};
 use super::watches::Watched;
 use nll_ledger::WordLedger;
 use nll_mail::QueueMail;
 use nll_run::Gate;
-use nll_worked::BY_TURNS;
+use nll_worked::{BY_TURNS, MANY_BOTH_WAYS};
 
 // A gate that takes notes, and allows this many growths in a turn.
 #[derive(Drop)]
@@ -64,4 +64,37 @@ fn none_is_read_as_one(rt: HostRuntime) {
     );
     let steps = notes.written(rt.alloc()).map_err(Failure::from);
     compare(&rt, steps, "2 2 3 0|2 2 3 0|");
+}
+
+// Where a gate allows three growths in a turn, none receives more: each of 300 growths that come
+// from the other is cleared once, and at most three of them in a turn.
+#[test]
+fn no_turn_receives_more_than_three(rt: HostRuntime) {
+    let notes = Notes::new(3);
+    let gate = Answer {
+        notes: &notes,
+        most: 3,
+    };
+    let queues = QueueMail::new(rt);
+    let mail = Watched {
+        inner: &queues,
+        watch: &notes,
+    };
+    let ledger = Watched {
+        inner: &WordLedger,
+        watch: &notes,
+    };
+    let told = told(
+        &rt,
+        rt.alloc(),
+        MANY_BOTH_WAYS,
+        Deal::Round(2),
+        &mail,
+        &ledger,
+        &gate,
+    );
+    let want = filled(rt.alloc(), "2: 0 601 1 300|2: 0-1 300 1-0 300").expect(&rt, "memory");
+    compare(&rt, told, &want);
+    let steps = notes.written(rt.alloc()).map_err(Failure::from);
+    compare(&rt, steps, "300 300 301 0|300 300 301 0|");
 }

@@ -27,6 +27,8 @@ mod ledger_rounds;
 #[cfg(test)]
 mod ledger_rows;
 #[cfg(test)]
+mod looks;
+#[cfg(test)]
 mod mail_one_thread;
 #[cfg(test)]
 mod mail_rounds;

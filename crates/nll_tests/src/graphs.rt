@@ -1,4 +1,4 @@
-//! Graphs: what their builder answers, and what they, their copies and their continuations report.
+//! Graphs: what their builder answers, and what they and their copies report.
 use super::calls::Call;
 use super::calls::Call::{Next, Ret};
 use super::problem_text::{OfProblem, tell, write_graph};
@@ -30,29 +30,17 @@ fn write_refused(out: &mut Transcript, builder: &mut GraphBuilder, calls: &[Call
 #[derive(Clone, Copy)]
 pub enum Then {
     Copied,
-    // Further calls are made, after those that made it.
-    Continued(&'static [Call]),
-    // A problem is made of it.
+    // A problem gets it.
     OfProblem,
 }
 
-// Writes what is reported about a graph with further calls.
-fn write_continued(out: &mut Transcript, graph: &Graph, calls: &[Call]) {
-    if let Ok(mut builder) = GraphBuilder::of(out.alloc, graph) {
-        let (points, universals) = (builder.points(), builder.universals());
-        out.pair(points, " points, ", universals, " ends|");
-        write_refused(out, &mut builder, calls);
-        let graph = builder.finish();
-        write_graph(out, &graph);
-        drop(graph);
-    }
-}
-
-// Writes what is reported about the problem of a graph.
+// Writes what is reported about a problem without facts that gets a graph.
 fn write_problem(out: &mut Transcript, graph: &Graph) {
-    if let Ok(builder) = ProblemBuilder::of_graph(out.alloc, graph) {
-        if let Ok(problem) = builder.finish() {
-            tell(out, &problem, OfProblem::Facts);
+    if let Ok(builder) = ProblemBuilder::new(out.alloc, graph.points(), graph.universals()) {
+        if let Ok(mut problem) = builder.finish() {
+            if let Ok(()) = problem.copy_graph(out.alloc, graph) {
+                tell(out, &problem, OfProblem::Facts);
+            }
             drop(problem);
         }
     }
@@ -67,7 +55,6 @@ fn write_then(out: &mut Transcript, graph: &Graph, then: Then) {
                 drop(copied);
             }
         }
-        Then::Continued(calls) => write_continued(out, graph, calls),
         Then::OfProblem => write_problem(out, graph),
     }
 }
@@ -135,13 +122,22 @@ const GRAPHS: &[Row] = &[
          10 to [] from [0]|11 to [] from [0]|out []|",
     ),
     (
-        "further calls, some of which are refused or say nothing new",
+        "calls of which some are refused or say nothing new",
         Asked::Graph(
             (2, 3),
-            &[Next(0, 1), Ret(1)],
-            Then::Continued(&[Next(0, 1), Next(1, 2), Next(1, 0), Ret(1), Ret(2), Ret(0)]),
+            &[
+                Next(0, 1),
+                Ret(1),
+                Next(0, 1),
+                Next(1, 2),
+                Next(1, 0),
+                Ret(1),
+                Ret(2),
+                Ret(0),
+            ],
+            Then::Copied,
         ),
-        "2 points, 3 ends|PointRange|PointRange|0 to [1] from [1] and out|\
+        "PointRange|PointRange|0 to [1] from [1] and out|\
          1 to [0] from [0] and out|out [1, 0]|",
     ),
     (

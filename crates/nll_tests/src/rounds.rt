@@ -8,12 +8,13 @@ ghost use Rattle.nll_sets.specs.ElementSet.{flag};
 ghost use Rattle.nll_problem.specs.At.{IsAmong};
 ghost use Rattle.nll_problem.specs.Graph.{element_count};
 ghost use Rattle.nll_problem.specs.Solution.{IsAskedIn, Least};
-ghost use Rattle.nll_core.specs.Growing.{Gains, Tells, StaysBelow, IsAskedBy, Meets, IsClosed};
+ghost use Rattle.nll_problem.specs.Walks.{Reaches};
+ghost use Rattle.nll_core.specs.Growing.{Gains, Tells, StaysBelow, IsAskedBy, Meets, MeetsEach};
 ghost use Rattle.nll_core.specs.Values.{set_of, IsHeld, IsShaped};
 
 use nll_core::{
-    At, Constraint, Element, ElementSet, Graph, Memory, Problem, RegionId, RunSet, Values,
-    base_values, reached_from,
+    At, Constraint, Element, ElementSet, Frontier, Graph, Memory, Problem, RegionId, RunSet,
+    Values, base_values,
 };
 use std::alloc::Global;
 
@@ -42,7 +43,7 @@ fn round(alloc: Global, problem: &Problem, values: &mut Values) -> Result<bool, 
     ensures kept { (r e : ℕ) → IsHeld values.old r e → IsHeld values.new r e }
     ensures below { StaysBelow problem.now values.old values.new }
     ensures tells { IfOk result (λ changed. Tells changed values.old values.new) }
-    ensures closed { IfOk result (λ changed. changed ≡ false → IsClosed problem.now values.old) }
+    ensures closed { IfOk result (λ changed. changed ≡ false → MeetsEach problem.now values.old) }
 {
     let mut changed = false;
     for constraint in problem.constraints() {
@@ -80,8 +81,29 @@ fn asked_inside(alloc: Global, graph: &Graph, set: &RunSet, at: At) -> Result<Ve
 {
     match at {
         At::All => all_of(alloc, set, graph.points() + graph.universals()),
-        At::Point(point) => reached_from(alloc, graph, set, Element(point)),
+        At::Point(point) => reached_from(alloc, graph, set, point),
     }
+}
+
+// What walks from a point reach inside a set. For a frontier the point is the last element that
+// comes into the set: without it no walk begins.
+fn reached_from(
+    alloc: Global,
+    graph: &Graph,
+    set: &RunSet,
+    point: u32,
+) -> Result<Vec<Element>, Memory>
+    requires width { length set.now ≡ element_count graph.now }
+    requires point { point < element_count graph.now }
+    ensures { IfOk result (λ found. (x : ℕ) → Contains found.items x
+        ↔ Reaches graph.now (λ z. flag set.now z ≡ true) point x) }
+{
+    let mut found = Vec::new(alloc);
+    let element = Element(point);
+    if set.has(element) {
+        Frontier::new(alloc, At::Point(point)).grow(graph, set, element, &mut found)?;
+    }
+    Ok(found)
 }
 
 // The elements of a set of this length.

@@ -1,9 +1,9 @@
 //! Statements of lines in flat lists, over the numbers that the names in them stand for.
-ghost use Rattle.std.specs.Prelude.{◌+◌, ◌≤◌, IfSome};
+ghost use Rattle.std.specs.Prelude.{◌+◌, ◌≤◌};
 
-use nll_body::{Call, FlatCall, Slice, Statement, Statements, Stmt};
+use nll_body::{FlatCall, Slice, Statements, Stmt};
 use nll_core::RegionId;
-use nll_mir_grammar::{Line, TypeText, Version, line_of};
+use nll_mir_grammar::{Call, Line, Statement, TypeText, Version, line_of};
 use nll_mir_text::{Resolving, Scope, resolve};
 use nll_types::{BodyTypes, Operand, Typed};
 use std::alloc::Global;
@@ -30,12 +30,12 @@ fn type_of(
 }
 
 // The part of a list that begins here, and ends where the list does.
-fn slice_to(first: usize, end: usize) -> Option<Slice>
-    ensures { IfSome result (λ s. s.first + s.count ≤ end) }
+fn slice_to(first: usize, end: usize) -> Slice
+    ensures { result.first + result.count ≤ end }
 {
     let first = first.min(end);
     let count = end - first;
-    Slice::of(first, count).ok()
+    Slice { first, count }
 }
 
 // Adds the arguments of a call, where the names in their types are known.
@@ -72,7 +72,7 @@ fn add_call(
     scope: &Scope<'_>,
     types: &mut BodyTypes,
     statements: &mut Statements,
-    call: &Call<&[u8], TypeText<'_>>,
+    call: &Call<'_>,
 ) -> Option<()> {
     let (argument, pair) = statements.call_counts();
     add_arguments(alloc, scope, types, statements, call.arguments.as_slice())?;
@@ -82,9 +82,9 @@ fn add_call(
     let (arguments, pairs) = statements.call_counts();
     let flat = FlatCall {
         place,
-        arguments: slice_to(argument, arguments)?,
+        arguments: slice_to(argument, arguments),
         result,
-        wheres: slice_to(pair, pairs)?,
+        wheres: slice_to(pair, pairs),
         target: call.target,
         unwind: call.unwind,
     };
@@ -98,7 +98,7 @@ fn add_statement(
     scope: &Scope<'_>,
     types: &mut BodyTypes,
     statements: &mut Statements,
-    statement: &Statement<&[u8], TypeText<'_>>,
+    statement: &Statement<'_>,
 ) -> Option<()> {
     let added = match statement {
         Statement::Assign(target, operand) => statements.add_assign(target, operand).ok()?,

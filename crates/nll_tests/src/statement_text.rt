@@ -2,8 +2,8 @@
 use super::transcript::Transcript;
 use super::type_text::write_type;
 use super::written_types::write_pieces;
-use nll_body::{Call, FlatOperand, Make, Slice, Statement, StatementAt, Stmt};
-use nll_mir_grammar::TypeText;
+use nll_body::{FlatOperand, Slice, StatementAt, Stmt};
+use nll_mir_grammar::{Call, Make, Statement, TypeText};
 use nll_types::{BodyTypes, Operand, Place, Projection, Typed};
 
 // Writes words, a variable, and what is taken of it.
@@ -32,7 +32,7 @@ fn write_operand(out: &mut Transcript, operand: &Operand) {
 }
 
 // Writes what is made of operands, with a comma after each of them.
-fn write_make(out: &mut Transcript, made: &Make<TypeText<'_>>) {
+fn write_make(out: &mut Transcript, made: &Make<'_>) {
     write_place(out, "_", &made.place);
     out.say(" = make ");
     write_pieces(out, &made.ty);
@@ -67,7 +67,7 @@ fn write_arguments(out: &mut Transcript, arguments: &[(Operand, TypeText<'_>)]) 
 }
 
 // Writes a call: its arguments, its result, and its bounds, two regions each.
-fn write_call(out: &mut Transcript, call: &Call<&[u8], TypeText<'_>>) {
+fn write_call(out: &mut Transcript, call: &Call<'_>) {
     write_place(out, "_", &call.place);
     out.say(" = call ");
     write_arguments(out, call.arguments.as_slice());
@@ -81,7 +81,7 @@ fn write_call(out: &mut Transcript, call: &Call<&[u8], TypeText<'_>>) {
 }
 
 /// Writes a statement as it is written.
-pub fn write_statement(out: &mut Transcript, statement: &Statement<&[u8], TypeText<'_>>) {
+pub fn write_statement(out: &mut Transcript, statement: &Statement<'_>) {
     match statement {
         Statement::Assign(place, operand) => {
             write_place(out, "_", place);
@@ -140,7 +140,7 @@ fn write_flat_operand(out: &mut Transcript, at: StatementAt<'_>, operand: FlatOp
 }
 
 // Writes what is made of operands, with a comma after each of them.
-fn write_flat_make(out: &mut Transcript, at: StatementAt<'_>, number: u32) {
+fn write_flat_make(out: &mut Transcript, at: StatementAt<'_>, number: usize) {
     let Some(made) = at.statements.make(number) else {
         return;
     };
@@ -165,7 +165,7 @@ fn write_flat_arguments(out: &mut Transcript, at: StatementAt<'_>, arguments: Sl
 }
 
 // Writes a call: its arguments, its result, and its bounds, two regions each.
-fn write_flat_call(out: &mut Transcript, at: StatementAt<'_>, number: u32) {
+fn write_flat_call(out: &mut Transcript, at: StatementAt<'_>, number: usize) {
     let Some(call) = at.statements.call(number) else {
         return;
     };
@@ -183,7 +183,7 @@ fn write_flat_call(out: &mut Transcript, at: StatementAt<'_>, number: u32) {
 }
 
 // Writes a switch.
-fn write_flat_switch(out: &mut Transcript, at: StatementAt<'_>, number: u32) {
+fn write_flat_switch(out: &mut Transcript, at: StatementAt<'_>, number: usize) {
     let Some(switch) = at.statements.switch(number) else {
         return;
     };

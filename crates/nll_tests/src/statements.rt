@@ -4,7 +4,7 @@ use super::rows::compare_text;
 use super::statement_names::add_line;
 use super::statement_text::write_flat;
 use super::transcript::Transcript;
-use nll_body::{Slice, StatementAt, Statements};
+use nll_body::{StatementAt, Statements};
 use nll_mir_text::Scope;
 use nll_types::BodyTypes;
 
@@ -218,20 +218,4 @@ fn statements_are_resolved(rt: HostRuntime) {
     compare_text(&rt, rt.alloc(), OfLine::Resolved, CALLS);
     compare_text(&rt, rt.alloc(), OfLine::Effects, EFFECTS);
     compare_text(&rt, rt.alloc(), OfLine::Exits, EXITS);
-}
-
-// Whether a part of a list that begins here has numbers.
-fn has_numbers(first: usize, count: usize) -> bool {
-    match Slice::of(first, count) {
-        Ok(slice) => slice.first as usize == first && slice.count as usize == count,
-        Err(_) => false,
-    }
-}
-
-#[test]
-fn numbers_of_slices_have_32_bits(rt: HostRuntime) {
-    let most = u32::MAX as usize;
-    assert!(rt; has_numbers(most, most), "the greatest numbers");
-    assert!(rt; !has_numbers(most + 1, 0), "a first item too far");
-    assert!(rt; !has_numbers(0, most + 1), "too many items");
 }

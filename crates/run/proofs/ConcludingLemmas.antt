@@ -19,7 +19,7 @@ use Rattle.fixpoint.specs.declared.ending.Ending.{Ending}
 use Rattle.fixpoint.specs.declared.ending.Ending.TheVariants.{Quiet, Stopped, Stray}
 use Rattle.fixpoint.specs.declared.ending.Ending.TheVariants as endings
 use Rattle.fixpoint.proofs.RunLemmas.{are_ranked, concludes, not_stray}
-use Rattle.run.specs.Settling.{ArePostsOf, InRows, sent_by, got_by}
+use Rattle.run.specs.Settling.{ArePostsOf, InRows, sent_at, got_by}
 use Rattle.run.specs.Refusing.{IsCalm}
 use Rattle.run.proofs.PlaceLemmas.{place, within, map_place, map_from, map_size, mapped, contains_place, contained, same_place}
 
@@ -108,7 +108,7 @@ module _ {A F G Y D M S R C P L B H E : Type 0} (rules : Rules A F G) (yields : 
     (given d))
     (calm : (k : ℕ) (d : D) → slice_get ds k ≡ Some d → IsCalm (why_of d)) where
   abbrev sent : ℕ → ℕ → List G
-  sent i j = sent_by m.all_sent (map closed ds) i j
+  sent i j = sent_at m.all_sent (map closed ds) i j
 
   abbrev got : ℕ → ℕ → List G
   got i j = got_by m.received (map kept ds) i j
@@ -189,7 +189,7 @@ module _ {A F G Y D M S R C P L B H E : Type 0} (rules : Rules A F G) (yields : 
   are_yields = record { counted = map_size given ds ∙ count; each = given_at }
 
   module _ (posts : List P)
-      (settled : ArePostsOf m (sent_by m.all_sent (map closed ds)) (got_by m.received (map kept ds))
+      (settled : ArePostsOf m (sent_at m.all_sent (map closed ds)) (got_by m.received (map kept ds))
       (InRows (rules.parts a) (rules.parts a)) posts) where
     abbrev rest : ℕ → ℕ → List G
     rest i j = drop (length (got i j)) (sent i j)

@@ -1,7 +1,7 @@
 -- What the workers give back is tied as what they were given was.
 use Rattle.std.proofs.Common.{◌≡◌, ◌<◌, ◌≤◌, ℕ, zero, suc, List, [], ◌∷◌, length, map, slice_index_or, slice_get, Some, refl, ap, sym, ◌∙◌, subst, ⊎_elim, arith}
 use Rattle.mail.specs.declared.mail.Mail as Mail
-use Rattle.run.specs.Table.{list_at, AreEnds, AreNewEnds, IsCell, IsTable}
+use Rattle.run.specs.Table.{list_at, AreEnds, AreNewEnds, IsCell, IsEndTable}
 use Rattle.std.specs.Prelude.{Bool, false, true, Result, Ok, Err, IfOk, Option, None}
 use Rattle.worker.specs.Finishing.{WasStarted, IsAnswered}
 use Rattle.fixpoint.specs.declared.ending.Ending.{Ending}
@@ -31,7 +31,7 @@ module _ {W D M T S R C P : Type 0} (m : Mail.Ghosts M T S R C P)
     → Alike (Both (λ s z. (r : R) → m.pairs s r → m.closes z r)) (senders w) (closed d))
     (keeps : (k : ℕ) (w : W) (d : D) → slice_get ws k ≡ Some w → slice_get ds k ≡ Some d
     → Alike (Both (Keeps m)) (receivers w) (kept d))
-    (table : IsTable (AreEnds (AreNewEnds m) m.ends) owners owners (map senders ws) (map receivers ws)) where
+    (table : IsEndTable (AreEnds (AreNewEnds m) m.ends) owners owners (map senders ws) (map receivers ws)) where
   count : length ws ≡ owners
   count = sym (map_size senders ws) ∙ table.row_count
 
@@ -64,7 +64,7 @@ module _ {W D M T S R C P : Type 0} (m : Mail.Ghosts M T S R C P)
         ends_then m i j x.0 x.1 z.0 y.0 x.4 z.2 y.2,
       )
 
-  pub table_then : IsTable (AreEnds m.closes m.ends) owners owners (map closed ds) (map kept ds)
+  pub table_then : IsEndTable (AreEnds m.closes m.ends) owners owners (map closed ds) (map kept ds)
   table_then = record {
     row_count = map_size closed ds ∙ (size ∙ count);
     column_count = map_size kept ds ∙ (size ∙ count);
@@ -106,7 +106,7 @@ module _ {M T S R C P : Type 0} (m : Mail.Ghosts M T S R C P) where
   own_place i j (Some s) r t e = absurd (cc)
 
   module _ (owners : ℕ) (rows : List (List (Option S))) (columns : List (List (Option R)))
-      (table : IsTable (AreEnds (AreNewEnds m) m.ends) owners owners rows columns) where
+      (table : IsEndTable (AreEnds (AreNewEnds m) m.ends) owners owners rows columns) where
     pub empty_row : (i : ℕ) (row : List (Option S)) → i < owners → list_at rows i ≡ row
         → (length (map (through m.sent) row) ≡ owners)
         × ((j : ℕ) → slice_index_or (map (through m.sent) row) j [] ≡ [])

@@ -5,7 +5,7 @@ use Rattle.mail.specs.declared.mail.Mail as Mail
 use Rattle.nll_sets.specs.Prefix.{IsPrefix}
 use Rattle.fixpoint.specs.Logs.{log_of}
 use Rattle.worker.specs.Mailboxes.{through}
-use Rattle.run.specs.Table.{list_at, AreEnds, IsTable}
+use Rattle.run.specs.Table.{list_at, AreEnds, IsEndTable}
 use Rattle.run.specs.Settling.{IsPostOf, ArePostsOf, AddsPost, AddsPosts, AreNext, InRow, InRows, ComeBefore}
 use Rattle.std.proofs.lemmas.List.Quantifiers.{all_pairs_push}
 use Rattle.run.specs.Delivery.{IsPairBefore}
@@ -122,7 +122,7 @@ drop_drop xs m = let n : suc m ≡ m + 1 = omega arith in drop_drop_suc xs m ∙
 -- what row m has for j, and the first of column j once m were taken off
 pub head_of : {C R : Type 0} (paired : ℕ → ℕ → C → R → Type 0) (owners m j : ℕ) (rows : List (List C))
     (columns : List (List R)) (row : List C) (column : List R)
-    → IsTable paired owners owners rows columns → m < owners → j < owners → row ≡ list_at rows m
+    → IsEndTable paired owners owners rows columns → m < owners → j < owners → row ≡ list_at rows m
     → column ≡ drop m (list_at columns j) → AreNext paired m j row column
 head_of paired owners m j rows columns row column t lm lj row_is column_is =
     let x = t.cell m j lm lj in (

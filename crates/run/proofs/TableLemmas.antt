@@ -1,6 +1,6 @@
 -- Tables are made row by row.
 use Rattle.std.proofs.Common.{◌≡◌, ◌+◌, ◌<◌, ℕ, List, [], ◌∷◌, ◌++◌, length, slice_set, slice_get, Some, ap, sym, ◌∙◌, subst, ◌⊎◌, ⊎_elim, arith}
-use Rattle.run.specs.Table.{list_at, IsTable, IsPartRow}
+use Rattle.run.specs.Table.{list_at, IsEndTable, IsPartRow}
 use Rattle.run.proofs.PlaceLemmas.{push_low, push_last, push_size, list_low, list_last, set_here, set_there, set_size}
 
 cases_last : (k n : ℕ) → k < n + 1 → (k < n) ⊎ (k ≡ n)
@@ -41,8 +41,8 @@ module _ {S R : Type 0} (paired : ℕ → ℕ → S → R → Type 0) where
   }
 
   pub table_more : (done owners : ℕ) (rows : List (List S)) (old new : List (List R)) (row : List S)
-      → IsTable paired done owners rows old → IsPartRow paired owners done row old new
-      → IsTable paired (done + 1) owners (rows ++ row ∷ []) new
+      → IsEndTable paired done owners rows old → IsPartRow paired owners done row old new
+      → IsEndTable paired (done + 1) owners (rows ++ row ∷ []) new
   table_more done owners rows old new row t p = record {
     row_count = push_size rows row ∙ ap (λ n. n + 1) t.row_count;
     column_count = p.column_count ∙ t.column_count;

@@ -68,9 +68,9 @@ abbrev pub InRows : ℕ → ℕ → ℕ → ℕ → Type 0
 InRows made owners i j = (i < made) × (j < owners)
 
 -- what the closed sender at each place has sent
-abbrev pub sent_by : {C T : Type 0} → (C → List T) → List (List (Option C)) → ℕ → ℕ
+abbrev pub sent_at : {C T : Type 0} → (C → List T) → List (List (Option C)) → ℕ → ℕ
     → List T
-sent_by all_sent rows i j = log_of (map (through all_sent) (list_at rows i)) j
+sent_at all_sent rows i j = log_of (map (through all_sent) (list_at rows i)) j
 
 -- what the receiver at each place has received
 abbrev pub got_by : {R T : Type 0} → (R → List T) → List (List (Option R)) → ℕ → ℕ

@@ -28,7 +28,7 @@ module _ {S R : Type 0} (paired : ℕ → ℕ → S → R → Type 0) where
       × paired i j s r
 
   -- The first this many rows, and what all columns have from them.
-  pub record IsTable (done owners : ℕ) (rows : List (List S)) (columns : List (List R))
+  pub record IsEndTable (done owners : ℕ) (rows : List (List S)) (columns : List (List R))
       : Type 0 where
     pub row_count : length rows ≡ done
     pub column_count : length columns ≡ owners

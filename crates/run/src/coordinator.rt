@@ -9,7 +9,7 @@ ghost use Rattle.worker.specs.Finishing.{IsFresh, Leaves, WasMade, WasStarted, F
 ghost use Rattle.worker.specs.Mailboxes.{through};
 ghost use Rattle.run.specs.Outcome.{IsOutcome};
 ghost use Rattle.run.specs.Refusing.{IsReason};
-ghost use Rattle.run.specs.Table.{AreEnds, AreNewEnds, IsTable};
+ghost use Rattle.run.specs.Table.{AreEnds, AreNewEnds, IsEndTable};
 ghost use Rattle.run.specs.declared.error.RunError.TheVariants.{Thread};
 
 use crate::error::RunError;
@@ -120,7 +120,7 @@ fn prepare<A: Analysis, M: Mail<A::Growth>, L: Ledger>(
     requires owners { (0 < owners) × (owners ≤ most_parts) }
     ensures book { IfOk result (λ p. L.owner_count p.0 ≡ owners) }
     ensures count { IfOk result (λ p. deque_len p.1 ≡ owners) }
-    ensures table { IfOk result (λ p. IsTable (AreEnds (AreNewEnds M.Mail) M.ends) owners owners
+    ensures table { IfOk result (λ p. IsEndTable (AreEnds (AreNewEnds M.Mail) M.ends) owners owners
         (map (λ w. w.outbox.senders.items) p.1.items)
         (map (λ w. w.receivers.items) p.1.items)) }
     ensures each { IfOk result (λ p. (k : ℕ) (w : _) → slice_get p.1.items k ≡ Some w
@@ -150,7 +150,7 @@ fn conclude<A: Analysis, M: Mail<A::Growth>, L: Ledger>(
 ) -> Result<Outcome<A, M::Post>, RunError>
     requires book { L.owner_count book ≡ A.rules.parts analysis.now }
     requires count { vec_len finished ≡ A.rules.parts analysis.now }
-    requires table { IsTable (AreEnds M.closes M.ends) (A.rules.parts analysis.now)
+    requires table { IsEndTable (AreEnds M.closes M.ends) (A.rules.parts analysis.now)
         (A.rules.parts analysis.now) (map (λ d. d.closed.items) finished.items)
         (map (λ d. d.receivers.items) finished.items) }
     requires leaves { (k : ℕ) (d : _) → slice_get finished.items k ≡ Some d

@@ -3,7 +3,7 @@
 ghost use Rattle.std.specs.Prelude.{◌≡◌, ◌≤◌, ℕ, [], map, replicate, slice_get, Some, IfOk};
 ghost use Rattle.std.specs.Prelude.{vec_len, vec_capacity};
 ghost use Rattle.std.specs.VecDeque.{deque_len};
-ghost use Rattle.run.specs.Table.{AreEnds, AreNewEnds, IsTable, IsPartRow};
+ghost use Rattle.run.specs.Table.{AreEnds, AreNewEnds, IsEndTable, IsPartRow};
 
 use fixpoint::Analysis;
 use ledger::Ledger;
@@ -41,7 +41,7 @@ pub fn make_rows<A: Analysis, M: Mail<A::Growth>>(
     columns: &mut Vec<Vec<Option<M::R>>>,
 ) -> Result<Vec<Outbox<A, M>>, Memory>
     requires { map (λ c. c.items) columns.old.items ≡ replicate owners [] }
-    ensures { IfOk result (λ rows. IsTable (AreEnds (AreNewEnds M.Mail) M.ends) owners owners
+    ensures { IfOk result (λ rows. IsEndTable (AreEnds (AreNewEnds M.Mail) M.ends) owners owners
         (map (λ o. o.senders.items) rows.items) (map (λ c. c.items) columns.new.items)) }
 {
     let mut rows = Vec::new(alloc);

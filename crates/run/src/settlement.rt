@@ -5,9 +5,9 @@ ghost use Rattle.std.specs.VecDeque.{deque_len};
 ghost use Rattle.fixpoint.specs.Logs.{log_of};
 ghost use Rattle.run.specs.Delivery.{IsPairBefore};
 ghost use Rattle.worker.specs.Mailboxes.{through};
-ghost use Rattle.run.specs.Table.{AreEnds, IsTable, list_at};
+ghost use Rattle.run.specs.Table.{AreEnds, IsEndTable, list_at};
 ghost use Rattle.run.specs.Settling.{ArePostsOf, AddsPosts, ComeBefore, InRows};
-ghost use Rattle.run.specs.Settling.{AreNext, InRow, LosesFirsts, sent_by, got_by};
+ghost use Rattle.run.specs.Settling.{AreNext, InRow, LosesFirsts, sent_at, got_by};
 
 use mail::Mail;
 use nll_sets::Memory;
@@ -23,11 +23,11 @@ pub fn settle_all<T, M: Mail<T>>(
     owners: u16,
     posts: &mut Vec<M::Post>,
 ) -> Result<(), Memory>
-    requires table { IsTable (AreEnds M.closes M.ends) owners owners
+    requires table { IsEndTable (AreEnds M.closes M.ends) owners owners
         (map (λ c. c.items) rows.items) (map (λ c. c.items) columns.old.items) }
     requires none { posts.old.items ≡ [] }
     ensures posts { OnOk result (ArePostsOf M.Mail
-        (sent_by M.all_sent (map (λ c. c.items) rows.items))
+        (sent_at M.all_sent (map (λ c. c.items) rows.items))
         (got_by M.received (map (λ c. c.items) columns.old.items))
         (InRows owners owners) posts.new.items) }
     ensures order { OnOk result (AllPairs IsPairBefore (map M.post_ends posts.new.items)) }

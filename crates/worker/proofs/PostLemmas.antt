@@ -10,7 +10,7 @@ use Rattle.fixpoint.specs.State.{State, IsSoundPart, part_for, given_to, first_s
 use Rattle.worker.proofs.PostingLemmas.{Posting, filter_none}
 use Rattle.fixpoint.proofs.ListLemmas.{take_all}
 use Rattle.worker.specs.Mailboxes.{AreAllEmpty}
-use Rattle.worker.specs.Tallies.{IsCounted, HasGrown}
+use Rattle.worker.specs.Tallies.{IsTallied, HasGrown}
 use Rattle.worker.specs.Turning.{HasPosted, HasGivenMore}
 use Rattle.worker.specs.declared.tally.Tally.{Tally}
 use Rattle.worker.proofs.ListLemmas.{set_length}
@@ -92,7 +92,7 @@ module _ {A F G : Type 0} (rules : Rules A F G) where
 
   -- where nothing waits, all was posted
   pub posts_all : (o : State A G) (posts : List (List G)) (t : Tally) → IsSoundPart rules o → HasPosted rules o
-      posts → IsCounted rules o t
+      posts → IsTallied rules o t
       → t.waiting ≡ 0 → (j : ℕ) → j < (rules.parts o.system) → log_of posts j ≡ part_for rules o j
   posts_all o posts t sound p is none j l = p.front j l
       ∙ (ap (λ n. take n (part_for rules o j)) (all_given rules o t sound is none j l) ∙ take_all (part_for rules o j))
@@ -159,6 +159,6 @@ module _ {A F G : Type 0} (rules : Rules A F G) where
   given_own lawful o to most sound own = grind (arith, part_own)
 
   -- where nothing waits, nothing more is to be given out
-  pub none_more : (o : State A G) (t : Tally) (most : ℕ) → IsSoundPart rules o → IsCounted rules o t → t.waiting ≡ 0
+  pub none_more : (o : State A G) (t : Tally) (most : ℕ) → IsSoundPart rules o → IsTallied rules o t → t.waiting ≡ 0
       → HasGivenMore rules most (rules.parts o.system) o o
   none_more o t most sound is none j l = let all = all_given rules o t sound is none j l in omega (arith, all)

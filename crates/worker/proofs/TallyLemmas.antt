@@ -6,7 +6,7 @@ use Rattle.nll_sets.specs.Prefix.{IsPrefix}
 use Rattle.fixpoint.specs.State.{State, IsSoundPart, part_for, given_to}
 use Rattle.fixpoint.proofs.ListLemmas.{filter_le}
 use Rattle.fixpoint.specs.Sums.{sum_to}
-use Rattle.worker.specs.Tallies.{IsCounted, HasGrown, due_of, given_of}
+use Rattle.worker.specs.Tallies.{IsTallied, HasGrown, due_of, given_of}
 use Rattle.worker.specs.declared.tally.Tally.{Tally}
 use Rattle.fixpoint.proofs.SumLemmas.{sum_same, sum_le, sum_exact}
 use Rattle.fixpoint.specs.Rules.{Rules}
@@ -102,8 +102,8 @@ module _ {A F G : Type 0} (rules : Rules A F G) where
     pub due_same : length new.log ≡ length old.log → due_of rules new ≡ due_of rules old
     due_same e = grind (arith, sum_same, part_same, owners_same)
 
-    module _ (t : Tally) (was : IsCounted rules old t) where
-      pub counted_same : t.grown ≡ length new.log → IsCounted rules new t
+    module _ (t : Tally) (was : IsTallied rules old t) where
+      pub counted_same : t.grown ≡ length new.log → IsTallied rules new t
       counted_same is = grind (arith, due_same, given_of_same)
 
       pub due_none : t.grown ≡ length new.log → due_of rules old + 0 ≡ due_of rules new
@@ -118,7 +118,7 @@ module _ {A F G : Type 0} (rules : Rules A F G) where
       due_more w n e d = let was_is = was.waiting in omega (arith, e, d, was_is, given_of_same)
 
   -- where nothing waits, all was given out
-  pub all_given : (o : State A G) (t : Tally) → IsSoundPart rules o → IsCounted rules o t → t.waiting ≡ 0 →
+  pub all_given : (o : State A G) (t : Tally) → IsSoundPart rules o → IsTallied rules o t → t.waiting ≡ 0 →
       (j : ℕ) → j < (rules.parts o.system)
       → given_to o j ≡ length (part_for rules o j)
   all_given o t sound is none =

@@ -10,7 +10,7 @@ use Rattle.worker.specs.declared.inbox.Heard.TheVariants.{Nothing, Growths, Stra
 use Rattle.worker.specs.declared.tally.Tally.{Tally}
 use Rattle.fixpoint.specs.Sums.{sum_to}
 use Rattle.worker.specs.Hearing.{IsGivenUp}
-use Rattle.worker.specs.Tallies.{HasGrown, IsCounted, due_of, given_of}
+use Rattle.worker.specs.Tallies.{HasGrown, IsTallied, due_of, given_of}
 use Rattle.worker.specs.Turning.{IsWorking, HasTaken, IsAtRest, HasTakenAll, ComesTo, WorkerGoesOn}
 use Rattle.fixpoint.specs.Finishing.{HasStray}
 use Rattle.worker.specs.Mailboxes.{AreAllEmpty}
@@ -66,11 +66,11 @@ module _ {A F G : Type 0} (rules : Rules A F G) where
           omega (arith, all, small, more)
 
       -- they waited
-      pub were_waiting : (t : Tally) → IsCounted rules now t → n ≤ t.waiting
+      pub were_waiting : (t : Tally) → IsTallied rules now t → n ≤ t.waiting
       were_waiting t was = grind (arith, sum_le, still_due)
 
-      pub counted_on : (t : Tally) → IsCounted rules now t → (w : ℕ) → w + n ≡ t.waiting
-          → IsCounted rules next (record t { waiting = w })
+      pub counted_on : (t : Tally) → IsTallied rules now t → (w : ℕ) → w + n ≡ t.waiting
+          → IsTallied rules next (record t { waiting = w })
       counted_on t was w less = grind (arith, still_due)
 
   -- how an owner is before and after it received growths, or was refused to
@@ -200,7 +200,7 @@ module _ {A F G : Type 0} (rules : Rules A F G) where
     pub taken_given : HasTakenAll rules old taken → HasTakenAll rules new taken
     taken_given h = subst (λ (o : State A G). HasTakenAll rules o taken) (sym others) h
 
-    pub rests_given : (owed cleared : ℕ) (t t' : Tally) → IsSoundPart rules new → IsCounted rules new t'
+    pub rests_given : (owed cleared : ℕ) (t t' : Tally) → IsSoundPart rules new → IsTallied rules new t'
         → (t'.turns ≡ t.turns) × (t'.cleared ≡ t.cleared) → IsAtRest rules old taken owed cleared t
         → IsAtRest rules new taken owed cleared t'
     rests_given owed cleared t t' sound counted same r = record {
@@ -222,7 +222,7 @@ module _ {A F G : Type 0} (rules : Rules A F G) where
       turns = omega (arith, same.0, r.turns);
     }
 
-    pub comes_given : (owed cleared : ℕ) (t t' : Tally) → IsSoundPart rules new → IsCounted rules new t'
+    pub comes_given : (owed cleared : ℕ) (t t' : Tally) → IsSoundPart rules new → IsTallied rules new t'
         → (t'.turns ≡ t.turns) × (t'.cleared ≡ t.cleared) → (heard : Heard) → ComesTo rules old taken owed cleared t
         heard
         → ComesTo rules new taken owed cleared t' heard
@@ -236,7 +236,7 @@ module _ {A F G : Type 0} (rules : Rules A F G) where
 
   -- what is counted where the worker needn't end
   pub counted_still : (o : State A G) (taken : List (List G)) (owed cleared : ℕ) (t : Tally) (heard : Heard)
-      → WorkerGoesOn heard → ComesTo rules o taken owed cleared t heard → IsCounted rules o t
+      → WorkerGoesOn heard → ComesTo rules o taken owed cleared t heard → IsTallied rules o t
   counted_still o taken owed cleared t Nothing goes came = came.counted
   counted_still o taken owed cleared t Growths goes came = came.counted
   counted_still o taken owed cleared t Stray goes came = absurd goes
@@ -274,5 +274,5 @@ module _ {A F G : Type 0} (rules : Rules A F G) where
 
   -- nothing is to be counted of an owner that has done nothing yet
   pub first_counted : (a : A) (i : ℕ) (o : State A G) → o ≡ first_state rules a i
-      → IsCounted rules o (record { grown = 0; waiting = 0; turns = 0; cleared = 0 })
+      → IsTallied rules o (record { grown = 0; waiting = 0; turns = 0; cleared = 0 })
   first_counted a i o first = grind (arith, sum_same, read_replicate, sum_zero, first_due)

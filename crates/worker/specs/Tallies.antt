@@ -21,7 +21,7 @@ module _ {A F G : Type 0} (rules : Rules A F G) where
   given_of o = sum_to (rules.parts o.system) (λ j. given_to o j)
 
   -- The tally has the length of the log, and the number of what isn't given yet.
-  pub record IsCounted (o : State A G) (t : Tally) : Type 0 where
+  pub record IsTallied (o : State A G) (t : Tally) : Type 0 where
     pub grown : t.grown ≡ length o.log
     pub waiting : given_of o + t.waiting ≡ due_of o
 

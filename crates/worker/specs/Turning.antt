@@ -11,7 +11,7 @@ use Rattle.fixpoint.specs.Finishing.{HasStray}
 use Rattle.fixpoint.specs.Sums.{sum_to}
 use Rattle.worker.specs.Mailboxes.{Alike, Both, Keeps}
 use Rattle.worker.specs.Finishing.{IsOpenStill}
-use Rattle.worker.specs.Tallies.{HasGrown, IsCounted, due_of}
+use Rattle.worker.specs.Tallies.{HasGrown, IsTallied, due_of}
 use Rattle.worker.specs.declared.tally.Tally.{Tally}
 use Rattle.worker.specs.declared.inbox.Heard.{Heard}
 use Rattle.worker.specs.declared.inbox.Heard.TheVariants.{Nothing, Growths, Stray, Memory}
@@ -64,7 +64,7 @@ module _ {A F G : Type 0} (rules : Rules A F G) where
       (t : Tally) : Type 0 where
     pub working : IsWorking o owed
     pub taking : HasTaken o taken cleared 0
-    pub counted : IsCounted rules o t
+    pub counted : IsTallied rules o t
     pub cleared_is : t.cleared ≡ cleared
     pub turns : t.turns ≤ cleared
 

@@ -3,7 +3,7 @@
 ghost use Rattle.std.specs.Prelude.{◌≡◌, ◌+◌, ◌^◌, ◌<◌, ◌≤◌, false};
 ghost use Rattle.fixpoint.specs.State.{State, IsSoundPart};
 ghost use Rattle.worker.specs.Finishing.{IsOpenStill};
-ghost use Rattle.worker.specs.Tallies.{HasGrown, IsCounted, due_of};
+ghost use Rattle.worker.specs.Tallies.{HasGrown, IsTallied, due_of};
 
 use crate::tally::{Tally, count_new};
 use fixpoint::Analysis;
@@ -23,7 +23,7 @@ pub fn keep_book<A: Analysis, L: Ledger>(account: &mut Account<'_, L>, part: &A:
     requires whole { (A.state part.now).broken ≡ false }
     requires book { L.belongs account.old.book.now account.old.share }
     requires grew { (before : State A A.Growth) × HasGrown before (A.state part.now)
-        × IsCounted A.rules before account.old.tally
+        × IsTallied A.rules before account.old.tally
         × (L.owed account.old.share ≡ 1 + due_of A.rules before) }
     requires cleared { account.old.tally.cleared ≡ L.cleared account.old.share }
     requires turns { account.old.tally.turns ≤ L.cleared account.old.share }
@@ -32,7 +32,7 @@ pub fn keep_book<A: Analysis, L: Ledger>(account: &mut Account<'_, L>, part: &A:
         account.new.book.now account.new.share }
     ensures owes { L.owed account.new.share ≡ 1 + due_of A.rules (A.state part.now) }
     ensures clears { L.cleared account.new.share ≡ L.cleared account.old.share + items }
-    ensures counted { IsCounted A.rules (A.state part.now) account.new.tally }
+    ensures counted { IsTallied A.rules (A.state part.now) account.new.tally }
     ensures cleared { account.new.tally.cleared ≡ L.cleared account.new.share }
     ensures turns { account.new.tally.turns ≡ account.old.tally.turns + 1 }
 {

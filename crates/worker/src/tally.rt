@@ -2,7 +2,7 @@
 
 ghost use Rattle.std.specs.Prelude.{◌≡◌, ◌+◌, false};
 ghost use Rattle.fixpoint.specs.State.{State};
-ghost use Rattle.worker.specs.Tallies.{IsCounted, HasGrown, due_of, none_counted};
+ghost use Rattle.worker.specs.Tallies.{IsTallied, HasGrown, due_of, none_counted};
 
 use fixpoint::Analysis;
 
@@ -37,10 +37,10 @@ impl Tally {
 pub fn count_new<A: Analysis>(part: &A::Part, tally: &mut Tally) -> u64
     requires whole { (A.state part.now).broken ≡ false }
     requires grew { (before : State A A.Growth) × HasGrown before (A.state part.now)
-        × IsCounted A.rules before tally.old }
-    ensures counted { IsCounted A.rules (A.state part.now) tally.new }
+        × IsTallied A.rules before tally.old }
+    ensures counted { IsTallied A.rules (A.state part.now) tally.new }
     ensures more { (before : State A A.Growth) → HasGrown before (A.state part.now)
-        → IsCounted A.rules before tally.old
+        → IsTallied A.rules before tally.old
         → due_of A.rules before + result ≡ due_of A.rules (A.state part.now) }
     ensures same { (tally.new.turns ≡ tally.old.turns) × (tally.new.cleared ≡ tally.old.cleared) }
 {

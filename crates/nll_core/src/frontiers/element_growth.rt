@@ -5,8 +5,8 @@ ghost use Rattle.nll_problem.specs.Graph.{element_count, IsNext, IsStep};
 ghost use Rattle.nll_core.specs.Search.{IsIn, IsStepInside};
 ghost use Rattle.nll_core.specs.Frontiers.{AppendsNew, IsAskedFrom, IsWithout, StepsOn};
 
+use crate::frontiers::inside::Inside;
 use crate::frontiers::places::Places;
-use crate::reachability::Inside;
 use crate::search::Search;
 use nll_problem::Graph;
 use nll_sets::{Element, ElementSet, Memory, RunSet};

@@ -1,11 +1,12 @@
 //! What owners use beside the solver: frontiers, which go on from what was found before.
 //!
 //! Reading order: `landings`, `steps`, `places`, `continuation`;
-//! `element_growth`, `frontier`.
+//! `inside`, `element_growth`, `frontier`.
 
 mod continuation;
 mod element_growth;
 mod frontier;
+mod inside;
 mod landings;
 mod places;
 mod steps;

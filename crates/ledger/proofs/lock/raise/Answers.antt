@@ -5,10 +5,8 @@ use Rattle.ledger.proofs.LockLemmas.{raised_after}
 use Rattle.ledger.proofs.lock.raise.Goals as goal
 
 pub give-requires-clause-rule : goal.give-requires-clause-rule
-give-requires-clause-rule g c = (
-  raised_after (ruled_capacity c.args.lock.now) c.grab-state.new.pass.id (view c.args.pass.now)
-      (view c.grab-state.new.pass) c.grab-state.result c.grab-state.ensures.holds c.args.amount
-      (state_of (c.grab-state.result.balance + c.args.amount) c.grab-state.result.flag) refl refl c.requires.live.0
-      c.requires.live.1 c.requires.few,
-  λ items views at h. tt,
-)
+give-requires-clause-rule g c =
+    raised_after (ruled_capacity c.args.lock.now) c.grab-state.new.pass.id (view c.args.pass.now)
+    (view c.grab-state.new.pass) c.grab-state.result c.grab-state.ensures.holds c.args.amount
+    (state_of (c.grab-state.result.balance + c.args.amount) c.grab-state.result.flag) refl refl c.requires.live.0
+    c.requires.live.1 c.requires.few

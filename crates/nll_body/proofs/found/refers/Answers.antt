@@ -16,5 +16,6 @@ returns-in-None-shape-clause-judged c =
 
 pub returns-in-None-clause-judged : goal.returns-in-None-clause-judged
 returns-in-None-clause-judged c =
-    λ t u r p q x y. judged_as (sym (unfit_left _ _ u _ p (no_reference _ t _ p c.args.mutable r (rw c.in-None.is at x))))
+    λ t u r p q x y. judged_as
+    (sym (unfit_left _ _ u _ p (no_reference _ t _ p c.args.mutable r (rw c.in-None.is at x))))
     refl (c.unfit-in-None.ensures.judged (p && q))

@@ -1,4 +1,4 @@
-use Rattle.std.proofs.Common.{Bool, [], take, ap, sym, ◌∙◌}
+use Rattle.std.proofs.Common.{Bool, [], take, ap, refl, sym, ◌∙◌}
 use Rattle.std.specs.Prelude.{◌&&◌}
 use Rattle.std.specs.List.{list_all}
 use Rattle.std.proofs.Math.Bool.{and-true, and_assoc}
@@ -63,6 +63,6 @@ returns-clause-made c =
       i.made.0,
       of,
       added_slice s texts _ c.args.statements.now c.loop-argument.statements i.made.0 _ of i.made.2
-          (c.in_ok-slice.ensures.first ∙ c.call_counts.ensures.arguments) c.in_ok-slice.ensures.count,
+          c.call_counts.ensures.arguments refl,
       rw all at i.fits,
     )

@@ -61,6 +61,5 @@ returns-clause-made c =
     let i = c.loop-bound.invariant in
     let all = take_all c.loop-bound.bound-index c.args.bounds.now (omega arith) in (
       ap (list_all (is_bound c.args.names.now)) (sym all) ∙ i.known,
-      rw (i.made, all) (listed_behind _ _ _ (c.in_ok-slice.ensures.first ∙ c.call_counts.ensures.pairs)
-          (c.in_ok-slice.ensures.count ∙ sym (length-map _ _))),
+      rw (i.made, all) (listed_behind _ _ _ c.call_counts.ensures.pairs (sym (length-map _ _))),
     )

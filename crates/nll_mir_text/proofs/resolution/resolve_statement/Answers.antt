@@ -2,12 +2,12 @@ use Rattle.std.proofs.Common.{ap, refl}
 use Rattle.nll_body.specs.Statements.{read}
 use Rattle.nll_body.proofs.FlatLemmas.{places_grow}
 use Rattle.nll_mir_text.specs.Resolution.{scope_of}
-use Rattle.nll_mir_text.specs.ResolvedStatements.{as_written}
+use Rattle.nll_mir_grammar.specs.Lines.{statement_of}
 use Rattle.nll_mir_text.proofs.ResolvedLemmas.{adds_same, flat_of, grows_same, made_resolved, put, IsPut}
 use Rattle.nll_mir_text.proofs.resolution.resolve_statement.Goals as goal
 use Rattle.nll_mir_text.proofs.resolution.resolve_statement.Goals.{in-Assign+in_ok-made-in-Assign, in-Borrow+in-Some+in_ok-made-in-Borrow, in-Read+in_ok-add_place-in-Read, in-Live, in-Dead, in-Nop, in-Goto, in-Switch+in_ok-made-in-Switch, in-Drop-default-default-None, in-Drop-default-default-Some, in-Return, in-Stop}
 
-is_put : (c : goal.Joined-statement) → IsPut (scope_of c.args.scope.now) (as_written c.args.statement.now)
+is_put : (c : goal.Joined-statement) → IsPut (scope_of c.args.scope.now) (statement_of c.args.statement.now)
     c.args.types.now c.args.statements.now c.match-statement.statements c.match-statement.made
 is_put c =
     let s = scope_of c.args.scope.now in

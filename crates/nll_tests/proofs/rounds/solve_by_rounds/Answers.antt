@@ -1,5 +1,5 @@
 use Rattle.std.proofs.Common.{sym, subst}
-use Rattle.nll_core.specs.Growing.{IsClosed}
+use Rattle.nll_core.specs.Growing.{MeetsEach}
 use Rattle.nll_core.proofs.SolverLemmas.{least_exact}
 use Rattle.nll_tests.proofs.rounds.solve_by_rounds.Goals as goal
 
@@ -29,4 +29,4 @@ returns-clause-least c =
     least_exact c.args.problem.now c.round.new.values
     (λ r e h. c.round.ensures.kept r e (c.loop-values.invariant.base r e h))
     (λ assignment sat. c.round.ensures.below assignment sat (c.loop-values.invariant.below assignment sat))
-    (subst (IsClosed c.args.problem.now) (sym same) (c.in_ok-round.ensures.closed c.if-branch.false))
+    (subst (MeetsEach c.args.problem.now) (sym same) (c.in_ok-round.ensures.closed c.if-branch.false))

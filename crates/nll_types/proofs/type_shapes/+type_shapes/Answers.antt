@@ -88,7 +88,8 @@ shape-returns-in_ok-returned-in-Function-clause-at t c = IfOk-weaker c.add-in-Fu
     ∙ ap (λ (z : ShapeList). put_in_shape z (shape_of (tree c.in-Function.returned.value))) same)
     ∙ put first c.args.arguments.now _ _ (ap tree c.in-Function.is ∙ tree_function _ _))) c.add-in-Function.ensures.at
 
-pub shape-returns-in_ok-returned-in-Function-clause-extends : goal.shape-returns-in_ok-returned-in-Function-clause-extends
+pub shape-returns-in_ok-returned-in-Function-clause-extends
+    : goal.shape-returns-in_ok-returned-in-Function-clause-extends
 shape-returns-in_ok-returned-in-Function-clause-extends t c =
     extends_then _ _ _ c.shape_all-in-Function.ensures.extends
     (extends_then _ _ _ c.shape-in-Function.ensures.extends c.add-in-Function.ensures.extends)
@@ -107,7 +108,8 @@ shape-returns-in_err-inputs-in-Function-clause-at t c =
 pub shape-returns-in_err-inputs-in-Function-clause-extends : goal.shape-returns-in_err-inputs-in-Function-clause-extends
 shape-returns-in_err-inputs-in-Function-clause-extends t c = c.shape_all-in-Function.ensures.extends
 
-pub shape-returns-in_err-returned-in-Function-clause-within : goal.shape-returns-in_err-returned-in-Function-clause-within
+pub shape-returns-in_err-returned-in-Function-clause-within
+    : goal.shape-returns-in_err-returned-in-Function-clause-within
 shape-returns-in_err-returned-in-Function-clause-within t c =
     failed c.from_residual-in_err-returned-in-Function.result _ _ c.from_residual-in_err-returned-in-Function.ensures.1
 
@@ -115,7 +117,8 @@ pub shape-returns-in_err-returned-in-Function-clause-at : goal.shape-returns-in_
 shape-returns-in_err-returned-in-Function-clause-at t c =
     failed c.from_residual-in_err-returned-in-Function.result _ _ c.from_residual-in_err-returned-in-Function.ensures.1
 
-pub shape-returns-in_err-returned-in-Function-clause-extends : goal.shape-returns-in_err-returned-in-Function-clause-extends
+pub shape-returns-in_err-returned-in-Function-clause-extends
+    : goal.shape-returns-in_err-returned-in-Function-clause-extends
 shape-returns-in_err-returned-in-Function-clause-extends t c =
     extends_then _ _ _ c.shape_all-in-Function.ensures.extends c.shape-in-Function.ensures.extends
 
@@ -176,7 +179,8 @@ shape-returns-in_err-target-in-Reference-clause-within t c = failed c.from_resid
 pub shape-returns-in_err-target-in-Reference-clause-at : goal.shape-returns-in_err-target-in-Reference-clause-at
 shape-returns-in_err-target-in-Reference-clause-at t c = failed c.from_residual.result _ _ c.from_residual.ensures.1
 
-pub shape-returns-in_err-target-in-Reference-clause-extends : goal.shape-returns-in_err-target-in-Reference-clause-extends
+pub shape-returns-in_err-target-in-Reference-clause-extends
+    : goal.shape-returns-in_err-target-in-Reference-clause-extends
 shape-returns-in_err-target-in-Reference-clause-extends t c = c.shape.ensures.extends
 
 pub shape-returns-in_err-parts-in-Tuple-clause-within : goal.shape-returns-in_err-parts-in-Tuple-clause-within

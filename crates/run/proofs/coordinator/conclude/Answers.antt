@@ -2,7 +2,7 @@ use Rattle.std.specs.Prelude.{None}
 use Rattle.std.proofs.Common.{◌≡◌, ℕ, List, Err, length, map, slice_get, Some, sym, subst, ap, ◌∙◌, arith}
 use Rattle.std.specs.List.{sum_by}
 use Rattle.run.specs.Outcome.{IsOutcome}
-use Rattle.run.specs.Settling.{ArePostsOf, InRows, sent_by, got_by}
+use Rattle.run.specs.Settling.{ArePostsOf, InRows, sent_at, got_by}
 use Rattle.run.specs.Refusing.{IsReason}
 use Rattle.run.specs.declared.error.RunError.TheVariants.{Thread}
 use Rattle.worker.specs.Finishing.{WasStarted}
@@ -34,7 +34,7 @@ returns-clause-ok g c =
     let columns = c.in_ok-lefts.ensures.columns ∙ ap (map (λ d. d.receivers.items)) c.from.ensures.0 in
     let settled =
     subst (λ (y : List (List _) × (List (List _) × ℕ)).
-    ArePostsOf m (sent_by m.all_sent y.0) (got_by m.received y.1.0)
+    ArePostsOf m (sent_at m.all_sent y.0) (got_by m.received y.1.0)
     (InRows y.1.1 y.1.1) c.settle_all.new.posts.items)
     (λ i. (rows i, (columns i, c.parts-owners.ensures.count i))) c.in_ok-settle_all.ensures.posts in
     let rules = g.A.Rules.rules in

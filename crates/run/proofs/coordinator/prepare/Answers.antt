@@ -1,5 +1,5 @@
 use Rattle.std.proofs.Common.{◌≡◌, List, map, slice_get, Some, sym, subst, ap, ◌∙◌}
-use Rattle.run.specs.Table.{AreEnds, AreNewEnds, IsTable}
+use Rattle.run.specs.Table.{AreEnds, AreNewEnds, IsEndTable}
 use Rattle.run.proofs.PlaceLemmas.{map_place}
 use Rattle.run.proofs.coordinator.prepare.Goals as goal
 
@@ -10,7 +10,7 @@ returns-clause-table g c =
     ∙ (c.in_ok-workers.ensures.rows ∙ ap (map (λ o. o.senders.items)) c.from.ensures.0) in
     let columns = ap (map (λ w. w.receivers.items)) c.from-4.ensures.0
     ∙ (c.in_ok-workers.ensures.columns ∙ ap (map (λ x. x.items)) c.from-2.ensures.0) in
-    subst (λ (y : List (List _) × List (List _)). IsTable (AreEnds (AreNewEnds m) m.ends) c.args.owners c.args.owners
+    subst (λ (y : List (List _) × List (List _)). IsEndTable (AreEnds (AreNewEnds m) m.ends) c.args.owners c.args.owners
     y.0 y.1)
     (λ i. (sym rows i, sym columns i)) c.in_ok-rows.ensures
 

@@ -2,7 +2,7 @@ use Rattle.std.proofs.Common.{◌<◌, [], map, sym, subst, ◌∙◌, arith, ve
 use Rattle.fixpoint.specs.Logs.{log_of}
 use Rattle.worker.specs.Finishing.{IsGiven, IsFresh, Leaves, FinishedAs}
 use Rattle.worker.specs.Mailboxes.{HasEnds, through}
-use Rattle.run.specs.Table.{AreEnds, IsTable}
+use Rattle.run.specs.Table.{AreEnds, IsEndTable}
 use Rattle.run.proofs.PlaceLemmas.{place, within, mapped, map_size, all_of}
 use Rattle.run.proofs.EndingLemmas.{table_then, empty_row, whole_row, empty_column, answer_of, if_ok_map, started_answer}
 use Rattle.run.proofs.coordinator.run_with.Goals as goal
@@ -48,7 +48,7 @@ conclude-requires-clause-table g c =
     (λ d. d.receivers.items)
     c.in_ok-book.workers.items c.in-Ok.finished.items c.parts-owners.result each.len
     (λ k w d a z. (each.at k w d a z).shuts) (λ k w d a z. (each.at k w d a z).keeps) c.in_ok-book.ensures.table in
-    subst (λ n. IsTable (AreEnds m.closes m.ends) n n (map (λ d. d.closed.items) c.in-Ok.finished.items)
+    subst (λ n. IsEndTable (AreEnds m.closes m.ends) n n (map (λ d. d.closed.items) c.in-Ok.finished.items)
     (map (λ d. d.receivers.items) c.in-Ok.finished.items)) c.parts-owners.ensures.count table
 
 pub conclude-requires-clause-leaves : goal.conclude-requires-clause-leaves

@@ -1,5 +1,5 @@
 use Rattle.std.proofs.Common.{◌+◌, map, sym, subst, ap, ◌∙◌}
-use Rattle.run.specs.Table.{AreEnds, AreNewEnds, IsTable}
+use Rattle.run.specs.Table.{AreEnds, AreNewEnds, IsEndTable}
 use Rattle.run.proofs.PlaceLemmas.{map_push}
 use Rattle.run.proofs.TableLemmas.{table_more}
 use Rattle.run.proofs.mailboxes.make_rows.Goals as goal
@@ -14,5 +14,5 @@ loop-from-preserved g c =
     c.in_ok-row.ensures.row in
     let pushed = ap (map (λ o. o.senders.items)) c.in_ok-push.ensures.items
     ∙ map_push (λ o. o.senders.items) c.loop-from.rows.items c.in_ok-row.row in
-    subst (λ l. IsTable (AreEnds (AreNewEnds m) m.ends) (from + 1) c.args.owners l
+    subst (λ l. IsEndTable (AreEnds (AreNewEnds m) m.ends) (from + 1) c.args.owners l
     (map (λ x. x.items) c.make_row.new.columns.items)) (sym pushed) more

@@ -2,7 +2,7 @@ use Rattle.std.proofs.Common.{◌≡◌, ◌+◌, [], drop, map, length, sym, su
 use Rattle.fixpoint.specs.Logs.{log_of}
 use Rattle.worker.specs.Mailboxes.{through}
 use Rattle.run.specs.Table.{AreEnds, list_at}
-use Rattle.run.specs.Settling.{ArePostsOf, InRows, InRow, sent_by, got_by}
+use Rattle.run.specs.Settling.{ArePostsOf, InRows, InRow, sent_at, got_by}
 use Rattle.run.proofs.PlaceLemmas.{drop_front, read_place}
 use Rattle.run.proofs.SettlingLemmas.{settled_as, rows_more, head_of, read_dropped, drop_drop}
 use Rattle.run.proofs.settlement.settle_all.Goals as goal
@@ -46,11 +46,11 @@ loop-from-preserved g c =
       count = cut.0 ∙ inv.count;
       cut = λ j l. cut.1 j l ∙ (ap (drop 1) (inv.cut j l) ∙ drop_drop (list_at columns j) from);
       order = c.in_ok-settle_row.ensures.order;
-      posts = subst (λ ps. ArePostsOf m (sent_by m.all_sent rows) (got_by m.received columns)
+      posts = subst (λ ps. ArePostsOf m (sent_at m.all_sent rows) (got_by m.received columns)
           (InRows (from + 1) c.args.owners) ps) (sym added.1)
-          (rows_more m (sent_by m.all_sent rows)
+          (rows_more m (sent_at m.all_sent rows)
           (got_by m.received columns) from c.args.owners c.loop-from.posts.items added.0 inv.posts
-          (settled_as m _ _ (sent_by m.all_sent rows) (got_by m.received columns) (InRow from c.args.owners) added.0
+          (settled_as m _ _ (sent_at m.all_sent rows) (got_by m.received columns) (InRow from c.args.owners) added.0
           (λ i j d. ap (λ l. log_of (map (through m.all_sent) l) j) (sym row ∙ ap (list_at rows) (sym d.0)))
           (λ i j d. ap (λ l. log_of (map (through m.received) l) 0) (inv.cut j d.1)
           ∙ (read_dropped (through m.received) (list_at columns j) from
@@ -62,6 +62,6 @@ pub returns-clause-posts : goal.returns-clause-posts
 returns-clause-posts g c =
     let m = g.M.Mail in
     let e : c.loop-from.from ≡ c.args.owners = omega (arith, c.loop-from-test.false, c.loop-from.auto.from-end) in
-    subst (λ n. ArePostsOf m (sent_by m.all_sent (map (λ x. x.items) c.args.rows.items))
+    subst (λ n. ArePostsOf m (sent_at m.all_sent (map (λ x. x.items) c.args.rows.items))
     (got_by m.received (map (λ x. x.items) c.args.columns.now.items))
     (InRows n c.args.owners) c.loop-from.posts.items) e c.loop-from.invariant.posts

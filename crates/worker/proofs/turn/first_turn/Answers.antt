@@ -1,6 +1,6 @@
 use Rattle.std.proofs.Common.{sym, ap, ◌∙◌, subst, arith}
 use Rattle.worker.proofs.TurnLemmas.{first_counted, first_grows, first_takes, first_due, none_taken}
-use Rattle.worker.specs.Tallies.{IsCounted}
+use Rattle.worker.specs.Tallies.{IsTallied}
 use Rattle.worker.specs.declared.tally.Tally.{Tally}
 use Rattle.worker.proofs.AccountLemmas.{still_refl}
 use Rattle.worker.proofs.turn.first_turn.Goals as goal
@@ -25,7 +25,7 @@ keep_book-requires-clause-grew g c = (
   (g.A.Analysis.state c.args.part.now),
   first_grows g.A.Rules.rules _ _ (g.A.Analysis.state c.args.part.now) (g.A.Analysis.state c.load.new.part)
       c.requires.first c.load.ensures.others c.load.ensures.begins,
-  subst (λ (t : Tally). IsCounted g.A.Rules.rules (g.A.Analysis.state c.args.part.now) t) (sym c.requires.uncounted)
+  subst (λ (t : Tally). IsTallied g.A.Rules.rules (g.A.Analysis.state c.args.part.now) t) (sym c.requires.uncounted)
       (first_counted g.A.Rules.rules _ _ (g.A.Analysis.state c.args.part.now) c.requires.first),
   (let none = first_due g.A.Rules.rules _ _ (g.A.Analysis.state c.args.part.now) c.requires.first in omega (
     arith,

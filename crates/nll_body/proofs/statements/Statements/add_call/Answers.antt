@@ -1,4 +1,4 @@
-use Rattle.std.proofs.Common.{◌≡◌, length, rules, subst, sym}
+use Rattle.std.proofs.Common.{rules, subst, sym}
 use Rattle.nll_sets.proofs.PrefixLemmas.{prefix_same}
 use Rattle.nll_body.specs.Within.{IsCallIn}
 use Rattle.nll_body.specs.contracts.statements.Statements.{the_view}
@@ -14,9 +14,8 @@ invariant_of-self-2 c =
 
 pub returns-clause-flat : goal.returns-clause-flat
 returns-clause-flat c =
-    let counted : c.in_ok-number.number ≡ length c.self.inside.calls.items = search rules in
     rw (c.in_ok-push.ensures.items, ← c.self.view_is)
-    (is_call (the_view c.self.inside) c.args.call c.in_ok-number.number c.self.invariant counted (is_in c))
+    (is_call (the_view c.self.inside) c.args.call c.len-number.result c.self.invariant (search rules) (is_in c))
 
 pub returns-clause-grows : goal.returns-clause-grows
 returns-clause-grows c =

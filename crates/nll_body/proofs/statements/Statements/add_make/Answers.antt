@@ -1,4 +1,4 @@
-use Rattle.std.proofs.Common.{◌≡◌, length, map, rules, subst, sym}
+use Rattle.std.proofs.Common.{map, rules, subst, sym}
 use Rattle.nll_types.specs.Operands.{operand_of}
 use Rattle.nll_types.specs.Places.{path_of}
 use Rattle.nll_body.specs.Within.{AreFlatOperands, IsNumberOf}
@@ -27,7 +27,6 @@ invariant_of-self-2 c =
 
 pub returns-clause-flat : goal.returns-clause-flat
 returns-clause-flat c =
-    let counted : c.in_ok-number.number ≡ length c.self.inside.makes.items = search rules in
     rw c.in_ok-push.ensures.items
-    (is_make (the_view c.self.inside) _ c.in_ok-number.number (path_of c.args.place.now)
-    (map operand_of c.args.operands.now) c.self.invariant counted (place_is c) (operands_are c))
+    (is_make (the_view c.self.inside) _ c.len-number.result (path_of c.args.place.now)
+    (map operand_of c.args.operands.now) c.self.invariant (search rules) (place_is c) (operands_are c))

@@ -31,7 +31,7 @@ loop-operand-preserved c =
           (grows_further _ _ _ (places_grow l m places) (grows_operand m c.in_ok-operand.operand));
       within = within_operand m c.in_ok-operand.operand within (is_flat c).0;
       ends = rw length_push (omega arith);
-      are = operand_added l m c.in_ok-operand.operand _ c.in_ok-slice.slice.first _ before.within within places
+      are = operand_added l m c.in_ok-operand.operand _ _ _ before.within within places
           (is_flat c) (omega arith) before.are
           ∙ taken_more operand_of c.args.operands.now i c.operand-item.result
           c.loop-operand-test.true c.operand-item.is;
@@ -45,11 +45,9 @@ invariant_of-self c =
 
 pub returns-clause-operands : goal.returns-clause-operands
 returns-clause-operands c =
-    let l = c.loop-operand.self in
-    let s = c.in_ok-slice.slice in
-    let counted = c.in_ok-slice.ensures.count in (
-      omega (arith, counted),
-      items_all (operand_in l) l.operands s.first s.count _ (omega (arith, counted)) c.loop-operand.invariant.are
+    let l = c.loop-operand.self in (
+      omega arith,
+      items_all (operand_in l) l.operands _ _ _ (omega arith) c.loop-operand.invariant.are
           ∙ ap (map operand_of)
           (take_all c.loop-operand.operand-index c.args.operands.now c.loop-operand-test.false),
     )

@@ -1,4 +1,4 @@
-use Rattle.std.proofs.Common.{◌≡◌, ◌∙◌, ap, length, rules, subst, sym}
+use Rattle.std.proofs.Common.{◌≡◌, ◌∙◌, ap, rules, subst, sym}
 use Rattle.nll_types.specs.Operands.{operand_of}
 use Rattle.nll_body.specs.Within.{IsFlatOperand, IsListedSlice}
 use Rattle.nll_body.specs.contracts.statements.Statements.{the_view}
@@ -24,7 +24,6 @@ invariant_of-self-2 c =
 
 pub returns-clause-flat : goal.returns-clause-flat
 returns-clause-flat c =
-    let counted : c.in_ok-number.number ≡ length c.self.inside.switches.items = search rules in
     rw c.in_ok-push.ensures.items
-    (is_switch (the_view c.self.inside) _ c.in_ok-number.number (operand_of c.args.operand.now) c.args.blocks.now
-    c.self.invariant counted (operand_is c) (blocks_are c))
+    (is_switch (the_view c.self.inside) _ c.len-number.result (operand_of c.args.operand.now) c.args.blocks.now
+    c.self.invariant (search rules) (operand_is c) (blocks_are c))

@@ -3,7 +3,7 @@ use Rattle.std.proofs.lemmas.Result.{on_ok_weaker, IfErr-weaker}
 use Rattle.nll_body.proofs.FlatLemmas.{statements_same}
 use Rattle.nll_mir_grammar.specs.MirForms.{at_point}
 use Rattle.nll_mir_text.specs.MirReading.{IsRefused, IsTaken}
-use Rattle.nll_mir_text.specs.ResolvedStatements.{as_written}
+use Rattle.nll_mir_grammar.specs.Lines.{statement_of}
 use Rattle.nll_mir_text.proofs.GrownLemmas.{is_grown, placed_of}
 use Rattle.nll_mir_text.proofs.reader.Reader.add_statement.Goals as goal
 
@@ -15,7 +15,7 @@ add_resolved-requires-clause-ready c =
 
 pub returns-in-Some-clause-taken : goal.returns-in-Some-clause-taken
 returns-in-Some-clause-taken c =
-    let i = as_written c.args.statement.now in
+    let i = statement_of c.args.statement.now in
     let e = rw (c.scope_in-scope.ensures, c.in-Some.is) at c.in_ok-resolved.ensures in
     let same = statements_same _ _ c.call_counts.ensures.within e.grows.lists e.grows.points in
     on_ok_weaker c.add_resolved.result
@@ -26,7 +26,7 @@ returns-in-Some-clause-taken c =
 
 pub returns-in-Some-clause-refused : goal.returns-in-Some-clause-refused
 returns-in-Some-clause-refused c =
-    let i = as_written c.args.statement.now in
+    let i = statement_of c.args.statement.now in
     let e = rw (c.scope_in-scope.ensures, c.in-Some.is) at c.in_ok-resolved.ensures in
     let same = statements_same _ _ c.call_counts.ensures.within e.grows.lists e.grows.points in
     IfErr-weaker c.add_resolved.result _ _
