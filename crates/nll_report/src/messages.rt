@@ -1,9 +1,9 @@
 //! The lines that the program writes on standard error, and their statuses.
-ghost use Rattle.std.specs.Prelude.{◌≡◌, ◌∷◌, ◌++◌, [], OnErr, OnOk, codes};
+ghost use Rattle.std.specs.Prelude.{◌≡◌, ◌∷◌, ◌++◌, [], OnErr, OnOk, Some, codes};
 ghost use Rattle.std.specs.Fmt.{decimal};
 ghost use Rattle.std.specs.Io.KnownBytes.{Appends};
 ghost use Rattle.nll_report.specs.Refusal.{kind_text, limit_text, refusal_line, refusal_of};
-ghost use Rattle.nll_report.specs.Refusal.{refusal_of_text, status_of};
+ghost use Rattle.nll_report.specs.Refusal.{refusal_of_text, refusal_text, status_of};
 ghost use Rattle.nll_report.specs.declared.messages.Refusal.TheVariants.{Memory};
 ghost use Rattle.nll_report.specs.Sink.{IsCutShort};
 
@@ -16,13 +16,16 @@ use nll_format::{TextError, TextKind};
 use nll_rules::RuleError;
 use nll_run::RunError;
 use std::alloc::AllocError;
+use std::error::Error;
+use std::fmt;
 
 /// The line that is written where the words are refused.
 pub const USAGE: &str = "usage: nllc values|check|replay FILE [--owners N] \
 [--deal round|blocks] [--cut FILE] [--mail queue|ring] [--schedule FILE]";
 
-/// Why the program gives no report.
-#[derive(Drop)]
+/// Why the program gives no report. Its `Display` is the line on standard error, without the end of
+/// the line.
+#[derive(Debug, Drop)]
 pub enum Refusal {
     /// The words have none of the allowed forms.
     Usage,
@@ -148,6 +151,32 @@ impl From<AnswerError> for Refusal {
         }
     }
 }
+
+impl fmt::Display for Refusal {
+    ghost output = { λ refusal. Some (refusal_text refusal) };
+
+    fn fmt<W: fmt::Write>(&self, f: &mut fmt::Formatter<W>) -> fmt::Result {
+        match self {
+            Refusal::Usage => f.write_str(USAGE),
+            Refusal::CannotRead(path) => write!(f, "nllc: cannot read {path}"),
+            Refusal::Text(line, kind) => write!(f, "nllc: line {line}: {}", kind_text(*kind)),
+            Refusal::Limit(kind) => write!(f, "nllc: {}", limit_text(*kind)),
+            Refusal::CutText(line, kind) => {
+                write!(f, "nllc: cut line {line}: {}", kind_text(*kind))
+            }
+            Refusal::CutLength => f.write_str("nllc: cut: length"),
+            Refusal::NoSuchOwner(index) => write!(f, "nllc: cut: no such owner at {index}"),
+            Refusal::ScheduleText(line, kind) => {
+                write!(f, "nllc: schedule line {line}: {}", kind_text(*kind))
+            }
+            Refusal::Thread => f.write_str("nllc: thread"),
+            Refusal::Memory => f.write_str("nllc: memory"),
+            Refusal::CannotWrite => f.write_str("nllc: cannot write"),
+        }
+    }
+}
+
+impl Error for Refusal {}
 
 fn kind_text(kind: TextKind) -> &'static str
     ensures { result.now ≡ kind_text kind }
