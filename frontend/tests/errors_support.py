@@ -18,10 +18,9 @@ from paths import TESTS as HERE
 
 from nllc_tools.base import nllc
 from nllc_tools.commands import answers as pages, rust
-from nllc_tools.model.moves import MOVES
 from nllc_tools.rustc import functions
 from nllc_tools.rustc.compiler import crate_name, find_rustc
-from nllc_tools.rustc.error_kinds import LIFETIMES, LOANS
+from nllc_tools.rustc.error_kinds import LIFETIMES, LOANS, MOVES
 from nllc_tools.views.terminal import answers
 from quick_solver import quick_report
 

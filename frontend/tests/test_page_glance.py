@@ -9,7 +9,7 @@ from nllc_tools.base.sentences import Code, plain
 from nllc_tools.judge import labels
 from nllc_tools.judge.as_rustc import loan_faults
 from nllc_tools.judge.content import Content, Fault
-from nllc_tools.judge.findings import advice, finding, findings
+from nllc_tools.judge.findings import advice, finding, findings, loan_findings
 from nllc_tools.judge.names import is_inner, lifetime_words
 from nllc_tools.judge.verdicts import verdict_of
 from nllc_tools.model.chains import chain
@@ -181,7 +181,7 @@ class Steps(unittest.TestCase):
 class Advice(unittest.TestCase):
     def test_a_later_use(self):
         content = content_of(*LOAN)
-        self.assertTrue(plain(advice.of_loan(content, content.loans[0])).startswith(
+        self.assertTrue(plain(loan_findings.advised(content, content.loans[0])).startswith(
             "move the use in line 5 above line 4; or clone"))
         self.assertIn("<b>What to do</b>: move the use", finding_list(content))
 
@@ -189,7 +189,7 @@ class Advice(unittest.TestCase):
         content = content_of(*LOAN)
         for code, said in (("E0515", "return the value itself"), ("E0716", "give the temporary a name"),
                            ("E0373", "write `move`"), ("E0597", "declare what is borrowed before")):
-            self.assertTrue(plain(advice.of_loan(content, content.loans[0]._replace(code=code))).startswith(said))
+            self.assertTrue(plain(loan_findings.advised(content, content.loans[0]._replace(code=code))).startswith(said))
 
     def test_a_fault(self):
         content = with_fault(*FOLDED)

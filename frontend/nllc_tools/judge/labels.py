@@ -9,7 +9,7 @@ from nllc_tools.judge.as_rustc import blame
 from nllc_tools.judge.content import Content
 from nllc_tools.judge.differences import Difference, differences, handed_out, refused
 from nllc_tools.judge.faults import AnyFault, Fault, LoanFault
-from nllc_tools.judge.findings import loan_findings
+from nllc_tools.judge.findings import loan_findings, move_findings
 from nllc_tools.judge.findings.finding import DEEDS
 from nllc_tools.judge.findings.lifetime_findings import names_of
 from nllc_tools.model.facts import Facts
@@ -26,10 +26,6 @@ class Label(NamedTuple):
 
 
 CONFLICTS = {"moves": "moved here", "assigns": "assigned here", "reads": "used here", "looks": "looked at here"}
-GONE = {"E0515": "returned here", "E0373": "outlives the function here", "E0716": "gone at the end of this"}
-# Of an error of moves and assignments what its earlier points did, and what it does itself.
-EARLIER = {"E0382": "moved here", "E0384": "has its value from here"}
-ITSELF = {"E0382": "used after the move", "E0384": "assigned again here"}
 
 
 def labels_of(content: Content) -> dict[int, list[Label]]:
@@ -52,9 +48,9 @@ def of_loan(content: Content, fault: LoanFault) -> Iterator[Label]:
     facts, cause, way = content.facts, fault.cause, fault.against.way
     yield from at(facts, fault.loan.place, fault.loan.at, "made", "borrowed here")
     place = loan_findings.place_of_loan(content, fault) if fault.is_end() else fault.against.place
-    said = GONE.get(fault.code, "gone here") if fault.is_end() else CONFLICTS.get(way, "conflicts here")
+    said = loan_findings.GONE.get(fault.code, "gone here") if fault.is_end() else CONFLICTS.get(way, "conflicts here")
     yield from at(facts, place, fault.against.point, "against", said)
-    if facts.is_universal(cause.region) and fault.code not in GONE:
+    if facts.is_universal(cause.region) and fault.code not in loan_findings.GONE:
         for named in filter(None, (blame.of_step(facts, step) for step in cause.steps)):
             if named.place and named.word != "step":    # where what is borrowed is taken out of the function
                 yield Label(named.place.line, "later", f"{DEEDS.get(named.word, 'needed')} here", named.place)
@@ -81,9 +77,10 @@ def of_fault(content: Content, fault: Fault) -> Iterator[Label]:
 
 
 def of_gone(facts: Facts, one: Gone) -> Iterator[Label]:
-    for point in one.since if one.code in EARLIER else ():
-        yield from at(facts, None, point, "made", EARLIER[one.code])
-    yield Label(one.place.line, "against", ITSELF.get(one.code, "used without a value"))
+    words = move_findings.BY_CODE[one.code]
+    for point in one.since if words.earlier else ():
+        yield from at(facts, None, point, "made", words.earlier)
+    yield Label(one.place.line, "against", words.itself)
 
 
 def of_difference(content: Content, one: Difference) -> Iterator[Label]:

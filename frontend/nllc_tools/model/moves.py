@@ -9,13 +9,13 @@ from typing import Container, Iterable, Iterator, NamedTuple, Optional
 
 from nllc_tools.base.walks import backwards, shortest
 from nllc_tools.model.liveness import MovePaths, neighbours
+from nllc_tools.rustc.error_kinds import MOVES
 from nllc_tools.rustc.errors import Error
 from nllc_tools.rustc.mir.body import Body
 from nllc_tools.rustc.mir.captures import closure_with, made_at
 from nllc_tools.rustc.mir.statements import Assign, Storage
 from nllc_tools.rustc.tables import Location, Spot, Tables
 
-MOVES = ("E0381", "E0382", "E0384")
 NAMED = re.compile(r"`(\w+)[^`]*`")
 
 

@@ -7,7 +7,6 @@ from nllc_tools.judge import asking_statements
 from nllc_tools.judge.as_rustc import blame
 from nllc_tools.judge.content import Content
 from nllc_tools.judge.faults import AnyFault
-from nllc_tools.judge.findings import advice
 from nllc_tools.model.chains import Step
 from nllc_tools.model.said import Blamed, Error, Place, Within
 from nllc_tools.texts.source import snippet, whole_line
@@ -38,10 +37,10 @@ class Finding(NamedTuple):
     within: Optional[Within] = None
 
 
-def notes(content: Content, fault: AnyFault, error: Optional[Error]) -> list[Sentence]:
-    """Why no other lifetime will do, and what rustc advises; where it advises nothing, the usual ways out."""
+def notes(content: Content, error: Optional[Error], advised: Sentence) -> list[Sentence]:
+    """Why no other lifetime will do, and what rustc advises; where it advises nothing, what is advised here."""
     helps = [ticked(one) for one in error.helps[:MOST_HELPS]] if error else []
-    said = [[HELP, *one] for one in helps or [advice.of(content, fault)]]
+    said = [[HELP, *one] for one in helps or [advised]]
     if error:
         why = [["invariant: ", *ticked("; ".join(error.notes))]] if error.notes else []
         return why + used_macro(content, error) + said

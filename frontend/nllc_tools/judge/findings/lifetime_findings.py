@@ -10,6 +10,7 @@ from nllc_tools.judge.as_rustc.counterparts import are_same, counterpart, pair_o
 from nllc_tools.judge.as_rustc.lifetimes import Lifetimes
 from nllc_tools.judge.content import Content
 from nllc_tools.judge.faults import Fault
+from nllc_tools.judge.findings import advice
 from nllc_tools.judge.findings.finding import HELP, Finding, notes, stops_of, within
 from nllc_tools.model.said import Error, Place
 
@@ -64,7 +65,7 @@ def of_placed(content: Content, one: Placed, further: Iterable[Placed] = ()) -> 
     stops = stops_of(content, fault.steps[::-1])
     way = ["data that lives for ", *lifetimes.name(fault.sup), " flows into ", *lifetimes.name(fault.sub), " at ",
            *joined(stops)] if stops else ["no line of the source is known for the constraints that require it"]
-    more = [lifetimes.places(fault.sup, *shorter), *notes(content, fault, error)]
+    more = [lifetimes.places(fault.sup, *shorter), *notes(content, error, advice.of_fault(content, fault))]
     return Finding(place, "", head, way, fault, [*filter(None, more)], within(place, error))
 
 

@@ -8,6 +8,7 @@ from nllc_tools.judge.as_rustc.counterparts import counterpart
 from nllc_tools.judge.as_rustc.lifetimes import Lifetimes
 from nllc_tools.judge.content import Content
 from nllc_tools.judge.faults import LoanFault
+from nllc_tools.judge.findings import advice
 from nllc_tools.judge.findings.finding import Finding, notes, stops_of, within
 from nllc_tools.model import chains
 from nllc_tools.model.facts import Facts
@@ -17,6 +18,17 @@ from nllc_tools.texts.source import borrowed, snippet, whole_line
 # What is done to a place that is lent, and what it suffers; all else borrows it.
 ACTS = {"moves": "moves", "assigns": "assigns to", "reads": "uses", "looks": "looks at"}
 SUFFERED = {"moves": "moved", "assigns": "assigned to", "reads": "used", "looks": "looked at"}
+# By rustc's code, what to do; of what is borrowed and goes away, the label of where it goes.
+BY_CODE: dict[str, Sentence] = {
+    "E0515": ["return the value itself (", Code("clone"), ", ", Code("to_owned"),
+              "); or take what is borrowed as an argument"],
+    "E0373": ["write ", Code("move"), " before the closure or block, so that it takes what it uses along"],
+    "E0716": ["give the temporary a name, by a ", Code("let"), " of its own before it is borrowed"],
+    "E0597": ["declare what is borrowed before what borrows it, so that it lives longer; or end the borrow sooner"],
+    "E0713": ["end the borrow before the value is dropped; or take the field out of the value first"],
+    "E0510": ["change it in the arm, after the guard"],
+}
+GONE = {"E0515": "returned here", "E0373": "outlives the function here", "E0716": "gone at the end of this"}
 PATH = r"\**[A-Za-z_]\w*(?:\.\w+)*"
 
 DESTRUCTOR = r"here, drop of `(.*)` needs exclusive access to `(.*)`, because the type `(.*)` implements"
@@ -39,7 +51,12 @@ def of_loan(content: Content, fault: LoanFault) -> Finding:
     lasting = lifetimes.places(fault.cause.region) if content.facts.is_universal(fault.cause.region) else []
     head = loan_head(content, fault, error if error and error.code() == fault.code else None)
     return Finding(place, fault.code, head, loan_cause(content, fault, lifetimes), fault,
-                   [*filter(None, (lasting, *notes(content, fault, error)))], within(place, error))
+                   [*filter(None, (lasting, *notes(content, error, advised(content, fault))))], within(place, error))
+
+
+def advised(content: Content, fault: LoanFault) -> Sentence:
+    """What to do about it: by rustc's code, or else the usual ways out."""
+    return BY_CODE.get(fault.code) or advice.of_loan(content, fault)
 
 
 def place_of_loan(content: Content, fault: LoanFault) -> Optional[Place]:

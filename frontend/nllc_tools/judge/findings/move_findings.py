@@ -15,6 +15,22 @@ BEFORE = r"moved here|moved due to|first assignment"
 UNKNOWN = "an earlier statement"    # one whose line no remark says
 
 
+class Words(NamedTuple):
+    """What to do about an error, the label of its own place, and that of the points since which it is one."""
+
+    advice: Sentence
+    itself: str
+    earlier: str = ""
+
+
+BY_CODE = {
+    "E0382": Words(["borrow it in place of moving it; or ", Code("clone"), " it before; or give it a new value after the move"],
+                   "used after the move", "moved here"),
+    "E0381": Words(["give it a value on each path that leads here"], "used without a value"),
+    "E0384": Words(["declare it ", Code("mut"), "; or declare another variable"], "assigned again here", "has its value from here"),
+}
+
+
 class Earlier(NamedTuple):
     """The line of what was done before; where that is the line of the error itself, rustc's label of it."""
 
@@ -35,7 +51,7 @@ def of_gone(content: Content, one: Gone) -> Finding:
     error = content.beside.error_of(one)
     earlier = earlier_lines(content.facts, one, error)
     return Finding(one.place, one.code, head(one, error, earlier), cause(content, one, error, earlier), one,
-                   notes(content, one, error), error.within if error else None)
+                   notes(content, error, BY_CODE[one.code].advice), error.within if error else None)
 
 
 def earlier_lines(facts: Facts, one: Gone, error: Optional[Error]) -> list[Earlier]:

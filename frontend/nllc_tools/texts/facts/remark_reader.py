@@ -22,6 +22,7 @@ from typing import Callable, Optional
 
 from nllc_tools.model.remarks import Remark, Remarks
 from nllc_tools.model.said import Against, Asked, Blamed, Error, Gone, Label, Loan, Place, Within
+from nllc_tools.rustc.error_kinds import MOVES
 
 WORD = re.compile(r"#\s*(\w+:?)", re.ASCII)
 PLACE = r"(\d+:\d+-\d+:\d+|elsewhere)"
@@ -44,7 +45,7 @@ FORMS = {
     "called": re.compile(rf"# called (\d+)(?: by ([\d ]+))?, {PLACE}"),
     "captured": re.compile(rf"# captured (\d+) '(\w+), {PLACE}"),
     "needs": re.compile(r"# needs '(\w+) '(\w+)"),
-    "gone": re.compile(r"# gone (\d+), (\d+):(\d+), (E038[124]) of (\w+), by ([\d ]+):([\d ]*)"),
+    "gone": re.compile(rf"# gone (\d+), (\d+):(\d+), ({'|'.join(MOVES)}) of (\w+), by ([\d ]+):([\d ]*)"),
     "rustc": re.compile(r"# rustc (\d+):(\d+): (.*)"),
     "help:": re.compile(r"# help: (.*)"),
     "note:": re.compile(r"# note: (.*)"),

@@ -11,9 +11,10 @@ from typing import Iterable, Iterator, Optional
 from nllc_tools.base.grouping import grouped
 from nllc_tools.model.blame import Blame, Chain, word_of
 from nllc_tools.model.loans import Loan, Loans
-from nllc_tools.model.moves import MOVES, Moved
+from nllc_tools.model.moves import Moved
 from nllc_tools.model.regions import STATIC
 from nllc_tools.model.typed_function import TypedFunction
+from nllc_tools.rustc.error_kinds import MOVES
 from nllc_tools.rustc.errors import INVOCATION, Error
 from nllc_tools.rustc.mir.body import Local, methods_on_results
 from nllc_tools.rustc.mir.captures import captures

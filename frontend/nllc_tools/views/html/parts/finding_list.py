@@ -45,7 +45,7 @@ def loan_item(content: Content, fault: LoanFault, is_open: bool) -> str:
     finding = loan_findings.of_loan(content, fault)
     line = f"{line_link(finding.place.line)}: " if finding.place else ""
     return opened(is_open, f"{text(fault.code)}: {sentence(finding.head)}",
-                  f'<p class="where">{line}{sentence(finding.cause)}.</p>{more_part(finding, advice.of_loan(content, fault))}'
+                  f'<p class="where">{line}{sentence(finding.cause)}.</p>{more_part(finding, loan_findings.advised(content, fault))}'
                   f"{chain_of_loan(content, fault)}")
 
 
