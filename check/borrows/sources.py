@@ -9,7 +9,7 @@ import tomllib
 from dataclasses import dataclass, field
 
 REGISTRY = "/usr/share/cargo/registry"
-LISTED = [line.partition("|") for line in pathlib.Path(__file__).with_name("crates.txt").read_text().splitlines()[1:]]
+LISTED = [line.partition("|") for line in pathlib.Path(__file__).with_name("compiled.table").read_text().splitlines()[1:]]
 # The features by which each crate is compiled, and the crates that it uses.
 CRATES = {named.split()[0]: (named.split()[1:], uses.split()) for named, _, uses in LISTED}
 # What a crate's build script would tell rustc.
